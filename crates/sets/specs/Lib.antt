@@ -1,1 +1,2 @@
+-- The definitions of `sets`. Assumes nothing.
 pub mod Sets

@@ -1,9 +1,13 @@
-// Attribute and object sets as masks: bit k stands for attribute or object k.
+// Attribute and object sets as masks: bit k stands for attribute or object k. Each function is one operation on the whole
+// set; its contract is an equation with a definition of specs/Sets.antt, which holds for every width.
 ghost use mathlib.Core.Path.{_≡_};
 ghost use Prim.Native.Nat.{_<_};
-ghost use Rattle.sets.specs.Sets.{has, within, _∩_, _∪_, _∖_};
+ghost use Rattle.sets.specs.Sets.{has, within, _∩_, _∪_, _∖_, single, insert, remove, isEmpty};
+ghost use Rattle.sets.specs.Sets.{rank, count, lowest};
 
+// A set of attributes, and a set of objects.
 pub type AttributeSet = u32;
+
 pub type ObjectSet = u32;
 
 // Whether k is a member of s.
@@ -14,23 +18,83 @@ pub fn has(s: u32, k: u32) -> bool
     (s >> k) % 2 == 1
 }
 
+// Whether s lies within t: one test on the whole set.
 pub fn within(s: u32, t: u32) -> bool
     ensures { λ r. ⌜ r ≡ within s t ⌝ }
 {
     s & t == s
 }
 
-pub fn intersection(s: AttributeSet, t: u32) -> u32
+// The members of both.
+pub fn intersection(s: u32, t: u32) -> u32
     ensures { λ r. ⌜ r ≡ s ∩ t ⌝ }
 {
     s & t
 }
 
+// The members of either.
+pub fn union(s: u32, t: u32) -> u32
+    ensures { λ r. ⌜ r ≡ s ∪ t ⌝ }
+{
+    s | t
+}
+
+// The members of s that are none of t.
+pub fn difference(s: u32, t: u32) -> u32
+    ensures { λ r. ⌜ r ≡ s ∖ t ⌝ }
+{
+    s ^ (s & t)
+}
+
+// The set whose one member is k.
+pub fn single(k: u32) -> u32
+    requires { ⌜ k < 32 ⌝ }
+    ensures { λ r. ⌜ r ≡ single k ⌝ }
+{
+    1 << k
+}
+
+// The set with k as a member.
+pub fn insert(s: u32, k: u32) -> u32
+    requires { ⌜ k < 32 ⌝ }
+    ensures { λ r. ⌜ r ≡ insert s k ⌝ }
+{
+    union(s, single(k))
+}
+
+// The set without k.
+pub fn remove(s: u32, k: u32) -> u32
+    requires { ⌜ k < 32 ⌝ }
+    ensures { λ r. ⌜ r ≡ remove s k ⌝ }
+{
+    difference(s, single(k))
+}
+
+// Whether the set has no member.
+pub fn is_empty(s: u32) -> bool
+    ensures { λ r. ⌜ r ≡ isEmpty s ⌝ }
+{
+    s == 0
+}
+
+// How many members the set has.
 pub fn count(s: u32) -> u32
+    ensures { λ r. ⌜ r ≡ count 32 s ⌝ }
 {
     u32::count_ones(s)
 }
+
+// How many members lie below k: of a member, the place of its cell in a row.
+pub fn rank(s: u32, k: u32) -> u32
+    requires { ⌜ k < 32 ⌝ }
+    ensures { λ r. ⌜ r ≡ rank s k ⌝ }
+{
+    u32::count_ones(s & (single(k) - 1))
+}
+
+// The lowest member, or 32 where there is none.
 pub fn lowest(s: u32) -> u32
+    ensures { λ r. ⌜ r ≡ lowest 32 s ⌝ }
 {
     u32::trailing_zeros(s)
 }

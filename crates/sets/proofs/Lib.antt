@@ -1,0 +1,6 @@
+-- The laws of `sets` that callers cite. Assumes nothing.
+pub mod Numbers
+pub mod Bits
+pub mod Sets
+pub mod Ranks
+pub mod Members
