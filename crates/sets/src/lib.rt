@@ -22,7 +22,7 @@ pub fn has(s: u32, k: u32) -> bool
 pub fn within(s: u32, t: u32) -> bool
     ensures { λ r. ⌜ r ≡ within s t ⌝ }
 {
-    s & t == s
+    (s & t) == s
 }
 
 // The members of both.
