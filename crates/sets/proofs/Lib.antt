@@ -1,4 +1,5 @@
 -- The laws of `sets` that callers cite. Assumes nothing.
+pub mod Tests
 pub mod Numbers
 pub mod Bits
 pub mod Sets

@@ -10,13 +10,13 @@ use Prim.Native.Nat.{ℕ, zero, suc, _+_, _-_, _*_, _/_, _%_, _^_, _≤_, _<_, m
 use native.Mathlib.Nat.{div-self, mul-div-cancel, mul-mod-left, zero-div, pow-suc, one-mul, mod-eq-of-lt, le-refl, lt-of-le-of-lt}
 use native.Mathlib.Omega.{arith}
 use lib.Bits.{bitAnd, bitOr, bitXor, differ, and-le-r, or-lt}
-use lib.Arith.{lt-of-le-ne}
+use lib.Arith.{lt-of-le-ne, bin-ind}
 use lib.Pow.{pow-pos, pow-add, pow-lt}
 use borrow.Author.Tests.{eq-eqb, ne-eqb, eqb-true, eqb-false}
 use Rattle.sets.specs.Sets.{bit, _∈_, _∉_, has, _⊆_, within, _∩_, _∪_, _∖_, single, insert, remove, isEmpty}
 use Rattle.sets.proofs.Numbers.{lt-or-le, eq-or-ne}
 use Rattle.sets.proofs.Bits.{bit-lt-two, member-or-not, in-out, not-in, not-out, no-bits, ext-bits, out-above}
-use Rattle.sets.proofs.Bits.{bit-and, bit-or, bit-xor}
+use Rattle.sets.proofs.Bits.{bit-zero, bit-suc, bit-and, bit-or, bit-xor}
 
 -- ---- the test of membership
 
@@ -175,6 +175,9 @@ pub ∩-⊆-right : (s t : ℕ) → s ∩ t ⊆ t
 pub ⊆-∩ : {s t u : ℕ} → u ⊆ s → u ⊆ t → u ⊆ s ∩ t
 ⊆-∩ h k = record { each = λ i. ∩-in (h .each i) (k .each i) }
 
+pub ∩-mono : (u : ℕ) {s t : ℕ} → s ⊆ t → u ∩ s ⊆ u ∩ t
+∩-mono u {s} h = ⊆-∩ (∩-⊆-left u s) (⊆-trans (∩-⊆-right u s) h)
+
 pub ∪-⊆ : {s t u : ℕ} → s ⊆ u → t ⊆ u → s ∪ t ⊆ u
 ∪-⊆ {s} {t} h k = record { each = λ i. ⊎-elim (λ a. h .each a) (λ b. k .each b) (∪-cases s t i) }
 
@@ -238,6 +241,19 @@ zero-⊆ s = record { each = λ {k} i. absurd (in-out i (zero-out k)) }
 pub no-members : {s : ℕ} → ((k : ℕ) → k ∉ s) → s ≡ 0
 no-members {s} h = no-bits s (λ k. h k .isZero)
 
+-- a set that is not 0 has a member
+pub some-member : (s : ℕ) → (s ≡ 0 → ⊥) → (k : ℕ) × (k ∈ s)
+some-member = bin-ind (λ (n : ℕ). (n ≡ 0 → ⊥) → (k : ℕ) × (k ∈ n)) (λ h. absurd (h refl)) step
+  where
+    step : (n : ℕ) → ((n / 2 ≡ 0 → ⊥) → (k : ℕ) × (k ∈ n / 2)) → (n ≡ 0 → ⊥) → (k : ℕ) × (k ∈ n)
+    step n ih h = ⊎-elim (λ i. (0, i)) even (member-or-not 0 n)
+      where
+        even : 0 ∉ n → (k : ℕ) × (k ∈ n)
+        even o =
+            let z : n % 2 ≡ 0 = sym (bit-zero n) ∙ o .isZero in
+            let m = ih (λ e. h (omega arith)) in
+            (suc (m .0), record { isOne = bit-suc n (m .0) ∙ m .1 .isOne })
+
 pub isEmpty-yes : {s : ℕ} → s ≡ 0 → isEmpty s ≡ true
 unfolding isEmpty
 isEmpty-yes {s} e = eq-eqb s 0 e
@@ -245,6 +261,10 @@ isEmpty-yes {s} e = eq-eqb s 0 e
 pub isEmpty-no : {s k : ℕ} → k ∈ s → isEmpty s ≡ false
 unfolding isEmpty
 isEmpty-no {s} {k} i = ne-eqb s 0 (λ e. in-out (subst (λ (x : ℕ). k ∈ x) e i) (zero-out k))
+
+pub no-isEmpty : (s : ℕ) → isEmpty s ≡ false → (k : ℕ) × (k ∈ s)
+unfolding isEmpty
+no-isEmpty s e = some-member s (eqb-false s 0 e)
 
 pub yes-isEmpty : (s : ℕ) → isEmpty s ≡ true → s ≡ 0
 unfolding isEmpty

@@ -1,0 +1,5 @@
+pub mod Tests
+pub mod Values
+pub mod Operators
+pub mod Table
+pub mod Theorems
