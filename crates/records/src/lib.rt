@@ -1,1 +1,207 @@
-// records
+// Records: "one byte of kind, then a body whose length the kind fixes". Reads the record at a position of some bytes.
+ghost use mathlib.Core.Path.{_≡_};
+ghost use Prim.Native.Nat.{_+_, _≤_, _<_};
+ghost use lib.ListN.{length, drop};
+ghost use Rattle.records.specs.Fields.{field};
+ghost use Rattle.records.specs.Records.{isKind, bodyLength};
+ghost use Rattle.records.specs.Reader.{recordOf, readAt};
+
+// A record, in the order of the paper's table: kinds 1 to 6 are a book's, 7 to 10 a query's.
+pub enum Record {
+    Attribute {
+        id: u8,
+        kind: u8,
+    },
+    Object {
+        number: u8,
+        set: u32,
+    },
+    Dependency {
+        left: u32,
+        right: u32,
+    },
+    Row {
+        object: u8,
+        c0: u32,
+        c1: u32,
+        c2: u32,
+        c3: u32,
+        c4: u32,
+        c5: u32,
+    },
+    Declared {
+        set: u32,
+    },
+    Removed {
+        set: u32,
+    },
+    Item {
+        variable: u8,
+        attribute: u8,
+    },
+    CompareTwo {
+        variable: u8,
+        attribute: u8,
+        operator: u8,
+        variable2: u8,
+        attribute2: u8,
+    },
+    CompareConstant {
+        variable: u8,
+        attribute: u8,
+        operator: u8,
+        cell: u32,
+    },
+    End,
+}
+
+// What reading at a position finds.
+pub enum Reading {
+    // No byte stands there.
+    Nothing,
+    // The byte there is no kind.
+    Unknown,
+    // The byte there is this kind, and its body is cut short.
+    Short(u8),
+    // A record, and the position where the next one starts.
+    Found(Record, usize),
+}
+
+// The length of the body of each kind, by kind; 0 stands for no kind.
+const BODY_LENGTHS: [usize; 11] = [0, 2, 5, 8, 25, 4, 4, 2, 5, 7, 0];
+
+// A byte as a number of 32 bits.
+fn wide(b: u8) -> u32
+    ensures { λ r. ⌜ (r ≡ b) × (r < 256) ⌝ }
+{
+    b as u32
+}
+
+// The field of one byte at a position.
+pub fn byte_at(s: &[u8], at: usize) -> u8
+    requires { ⌜ at < length (now s) ⌝ }
+    ensures { λ r. ⌜ r ≡ field 1 (now (s .entry)) at ⌝ }
+{
+    s[at]
+}
+
+// The field of four bytes at a position, the lowest first: a set or a cell.
+pub fn word_at(s: &[u8], at: usize) -> u32
+    requires { ⌜ at + 4 ≤ length (now s) ⌝ }
+    ensures { λ r. ⌜ r ≡ field 4 (now (s .entry)) at ⌝ }
+{
+    let b0 = wide(s[at]);
+    let b1 = wide(s[at + 1]);
+    let b2 = wide(s[at + 2]);
+    let b3 = wide(s[at + 3]);
+    b0 + 256 * (b1 + 256 * (b2 + 256 * b3))
+}
+
+// Whether a byte is a kind of the table.
+pub fn is_kind(kind: u8) -> bool
+    ensures { λ r. ⌜ r ≡ isKind kind ⌝ }
+{
+    1 <= kind && kind <= 10
+}
+
+// How many bytes the body of a kind has, the kind byte not counted.
+pub fn body_length(kind: u8) -> usize
+    ensures { λ r. ⌜ r ≡ bodyLength kind ⌝ }
+{
+    let k = kind as usize;
+    if k <= 10 { BODY_LENGTHS[k] } else { 0 }
+}
+
+// The row whose body starts at a position.
+fn row(s: &[u8], body: usize) -> Record
+    requires { ⌜ body + 25 ≤ length (now s) ⌝ }
+    ensures { λ r. ⌜ r ≡ recordOf 4 (drop body (now (s .entry))) ⌝ }
+{
+    Record::Row {
+        object: byte_at(s, body),
+        c0: word_at(s, body + 1),
+        c1: word_at(s, body + 5),
+        c2: word_at(s, body + 9),
+        c3: word_at(s, body + 13),
+        c4: word_at(s, body + 17),
+        c5: word_at(s, body + 21),
+    }
+}
+
+// The record of a kind of a book, 1 to 6, whose body starts at a position.
+fn book_record(s: &[u8], kind: u8, body: usize) -> Record
+    requires { ⌜ (1 ≤ kind) × (kind ≤ 6) × (body + bodyLength kind ≤ length (now s)) ⌝ }
+    ensures { λ r. ⌜ r ≡ recordOf kind (drop body (now (s .entry))) ⌝ }
+{
+    match kind {
+        1 => Record::Attribute {
+            id: byte_at(s, body),
+            kind: byte_at(s, body + 1),
+        },
+        2 => Record::Object {
+            number: byte_at(s, body),
+            set: word_at(s, body + 1),
+        },
+        3 => Record::Dependency {
+            left: word_at(s, body),
+            right: word_at(s, body + 4),
+        },
+        4 => row(s, body),
+        5 => Record::Declared {
+            set: word_at(s, body),
+        },
+        _ => Record::Removed {
+            set: word_at(s, body),
+        },
+    }
+}
+
+// The record of a kind of a query, 7 to 10, whose body starts at a position.
+fn query_record(s: &[u8], kind: u8, body: usize) -> Record
+    requires { ⌜ (7 ≤ kind) × (kind ≤ 10) × (body + bodyLength kind ≤ length (now s)) ⌝ }
+    ensures { λ r. ⌜ r ≡ recordOf kind (drop body (now (s .entry))) ⌝ }
+{
+    match kind {
+        7 => Record::Item {
+            variable: byte_at(s, body),
+            attribute: byte_at(s, body + 1),
+        },
+        8 => Record::CompareTwo {
+            variable: byte_at(s, body),
+            attribute: byte_at(s, body + 1),
+            operator: byte_at(s, body + 2),
+            variable2: byte_at(s, body + 3),
+            attribute2: byte_at(s, body + 4),
+        },
+        9 => Record::CompareConstant {
+            variable: byte_at(s, body),
+            attribute: byte_at(s, body + 1),
+            operator: byte_at(s, body + 2),
+            cell: word_at(s, body + 3),
+        },
+        _ => Record::End,
+    }
+}
+
+// The record that stands at a position, if one does. Any position of any bytes has an answer.
+pub fn read(s: &[u8], at: usize) -> Reading
+    ensures { λ r. ⌜ r ≡ readAt (now (s .entry)) at ⌝ }
+{
+    if at >= s.len() {
+        return Reading::Nothing;
+    }
+    let kind = s[at];
+    if !is_kind(kind) {
+        return Reading::Unknown;
+    }
+    let body = at + 1;
+    let len = body_length(kind);
+    if s.len() - body < len {
+        return Reading::Short(kind);
+    }
+    if kind <= 6 {
+        Reading::Found(book_record(s, kind, body), body + len)
+    } else {
+        Reading::Found(query_record(s, kind, body), body + len)
+    }
+}

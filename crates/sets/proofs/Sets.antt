@@ -9,7 +9,7 @@ use mathlib.Core.Logic.{_⊎_, inl, inr, ⊎-elim}
 use Prim.Native.Nat.{ℕ, zero, suc, _+_, _-_, _*_, _/_, _%_, _^_, _≤_, _<_, min, max}
 use native.Mathlib.Nat.{div-self, mul-div-cancel, mul-mod-left, zero-div, pow-suc, one-mul, mod-eq-of-lt, le-refl, lt-of-le-of-lt}
 use native.Mathlib.Omega.{arith}
-use lib.Bits.{bitAnd, bitOr, bitXor, differ, and-le-r, or-lt}
+use lib.Bits.{bitAnd, bitOr, bitXor, differ, and-le-r, or-lt, or-zero-l, or-zero-r}
 use lib.Arith.{lt-of-le-ne, bin-ind}
 use lib.Pow.{pow-pos, pow-add, pow-lt}
 use borrow.Author.Tests.{eq-eqb, ne-eqb, eqb-true, eqb-false}
@@ -69,6 +69,19 @@ pub ∪-out : {s t k : ℕ} → k ∉ s → k ∉ t → k ∉ s ∪ t
 pub ∪-cases : (s t : ℕ) {k : ℕ} → k ∈ s ∪ t → (k ∈ s) ⊎ (k ∈ t)
 ∪-cases s t {k} i =
     ⊎-elim inl (λ (o : k ∉ s). inr (not-out (λ (p : k ∉ t). in-out i (∪-out o p)))) (member-or-not k s)
+
+pub ∪-assoc : (s t u : ℕ) → (s ∪ t) ∪ u ≡ s ∪ (t ∪ u)
+∪-assoc s t u =
+    ext-bits ((s ∪ t) ∪ u) (s ∪ (t ∪ u))
+    (λ k. omega (arith, bit-∪ (s ∪ t) u k, bit-∪ s t k, bit-∪ s (t ∪ u) k, bit-∪ t u k))
+
+pub ∪-zero-left : (s : ℕ) → 0 ∪ s ≡ s
+unfolding _∪_
+∪-zero-left s = or-zero-l s
+
+pub ∪-zero-right : (s : ℕ) → s ∪ 0 ≡ s
+unfolding _∪_
+∪-zero-right s = or-zero-r s
 
 -- ---- difference
 

@@ -1,0 +1,235 @@
+-- Laws of kinds and of the bytes of a record.
+-- In order: kinds; a record's kind byte and body; the body of a record that was written, and a body written again; each
+-- record at its place.
+-- Assumes nothing.
+use mathlib.Core.Path.{_≡_, refl, sym, ap, _∙_}
+use mathlib.Core.Bool.{Bool, true, false, and-eq-true-iff, false≢true}
+use mathlib.Core.List.{List, _∷_, _++_}
+use Prim.Native.Nat.{ℕ, zero, suc, _+_, _≤_, _<_}
+use native.Mathlib.Nat.{add-zero}
+use native.Mathlib.Omega.{arith}
+use borrow.Author.Tests.{leb-true, le-leb}
+use lib.Dec.{leb}
+use lib.ListN.{length, take, drop, List·getD-eq-default}
+use lib.Seq.{take-add}
+use Rattle.records.specs.Fields.{AreBytes, bytes, field}
+use Rattle.records.specs.Records.{isKind, bodyLengths, bodyLength, kindOf, bytesOf, Small, Wide, InWidth}
+use Rattle.records.specs.Reader.{bodies, recordOf}
+use Rattle.records.specs.declared.Record.{Record}
+use Rattle.records.specs.declared.Record.the-variants.{Attribute, Object, Dependency, Row, Declared, Removed}
+use Rattle.records.specs.declared.Record.the-variants.{Item, CompareTwo, CompareConstant, End}
+use Rattle.records.proofs.Fields.{value-bytes, bytes-field, field-drop, field-below}
+
+-- ---- kinds
+
+pub isKind-yes : (k : ℕ) → 1 ≤ k → k ≤ 10 → isKind k ≡ true
+unfolding isKind
+isKind-yes k low high = simp (le-leb 1 k low, le-leb k 10 high)
+
+pub isKind-range : (k : ℕ) → isKind k ≡ true → (1 ≤ k) × (k ≤ 10)
+unfolding isKind
+isKind-range k e =
+    let both : (leb 1 k ≡ true) × (leb k 10 ≡ true) = and-eq-true-iff (leb 1 k) (leb k 10) .0 e in
+    (leb-true 1 k (both .0), leb-true k 10 (both .1))
+
+pub isKind-no : (k : ℕ) → (1 ≤ k → k ≤ 10 → ⊥) → isKind k ≡ false
+isKind-no k h = go (isKind k) refl
+  where
+    go : (b : Bool) → isKind k ≡ b → isKind k ≡ false
+    go true e = absurd (h (isKind-range k e .0) (isKind-range k e .1))
+    go false e = e
+
+pub isKind-out : (k : ℕ) → isKind k ≡ false → 1 ≤ k → k ≤ 10 → ⊥
+isKind-out k e low high = false≢true (sym e ∙ isKind-yes k low high)
+
+-- What holds of each of the ten kinds holds of every kind.
+pub by-kind : (P : ℕ → Type 0) → P 1 → P 2 → P 3 → P 4 → P 5 → P 6 → P 7 → P 8 → P 9 → P 10
+    → (k : ℕ) → isKind k ≡ true → P k
+unfolding isKind
+by-kind P a b c d e f g h i j zero kind = absurd (false≢true kind)
+by-kind P a b c d e f g h i j (suc zero) kind = a
+by-kind P a b c d e f g h i j (suc (suc zero)) kind = b
+by-kind P a b c d e f g h i j (suc (suc (suc zero))) kind = c
+by-kind P a b c d e f g h i j (suc (suc (suc (suc zero)))) kind = d
+by-kind P a b c d e f g h i j (suc (suc (suc (suc (suc zero))))) kind = e
+by-kind P a b c d e f g h i j (suc (suc (suc (suc (suc (suc zero)))))) kind = f
+by-kind P a b c d e f g h i j (suc (suc (suc (suc (suc (suc (suc zero))))))) kind = g
+by-kind P a b c d e f g h i j (suc (suc (suc (suc (suc (suc (suc (suc zero)))))))) kind = h
+by-kind P a b c d e f g h i j (suc (suc (suc (suc (suc (suc (suc (suc (suc zero))))))))) kind = i
+by-kind P a b c d e f g h i j (suc (suc (suc (suc (suc (suc (suc (suc (suc (suc zero)))))))))) kind = j
+by-kind P a b c d e f g h i j (suc (suc (suc (suc (suc (suc (suc (suc (suc (suc (suc k))))))))))) kind =
+    absurd (omega (arith, isKind-range (suc (suc (suc (suc (suc (suc (suc (suc (suc (suc (suc k))))))))))) kind))
+
+pub bodyLength-past : (k : ℕ) → 10 < k → bodyLength k ≡ 0
+unfolding bodyLength bodyLengths
+bodyLength-past k h = List·getD-eq-default bodyLengths 0 h
+
+-- ---- a record's kind byte and body
+
+-- A record's bytes are its kind, which is one of the table, and a body as long as the kind says.
+pub record Shape (r : Record) : Type 0 where
+  pub kind : isKind (kindOf r) ≡ true
+  pub split : bytesOf r ≡ kindOf r ∷ drop 1 (bytesOf r)
+  pub body : length (drop 1 (bytesOf r)) ≡ bodyLength (kindOf r)
+
+pub shape : (r : Record) → Shape r
+unfolding isKind bodyLength bodyLengths kindOf bytesOf bytes
+shape (Attribute id kind) = record { kind = refl; split = refl; body = refl }
+shape (Object number set) = record { kind = refl; split = refl; body = refl }
+shape (Dependency left right) = record { kind = refl; split = refl; body = refl }
+shape (Row object c0 c1 c2 c3 c4 c5) = record { kind = refl; split = refl; body = refl }
+shape (Declared set) = record { kind = refl; split = refl; body = refl }
+shape (Removed set) = record { kind = refl; split = refl; body = refl }
+shape (Item variable attribute) = record { kind = refl; split = refl; body = refl }
+shape (CompareTwo variable attribute operator variable2 attribute2) = record { kind = refl; split = refl; body = refl }
+shape (CompareConstant variable attribute operator cell) = record { kind = refl; split = refl; body = refl }
+shape End = record { kind = refl; split = refl; body = refl }
+
+pub length-bytesOf : (r : Record) → length (bytesOf r) ≡ 1 + bodyLength (kindOf r)
+length-bytesOf r = ap length (shape r .split) ∙ omega (arith, shape r .body)
+
+-- ---- the body of a record that was written, and a body written again
+
+-- What is read from the body of a written record is the record, whatever stands after it.
+pub recordOf-written : (r : Record) (q : List ℕ) → InWidth r → recordOf (kindOf r) (drop 1 (bytesOf r) ++ q) ≡ r
+unfolding recordOf bodies kindOf bytesOf bytes field InWidth
+recordOf-written (Attribute id kind) q h = λ i. Attribute (value-bytes 1 id (h .0) i) (value-bytes 1 kind (h .1) i)
+recordOf-written (Object number set) q h = λ i. Object (value-bytes 1 number (h .0) i) (value-bytes 4 set (h .1) i)
+recordOf-written (Dependency left right) q h =
+    λ i. Dependency (value-bytes 4 left (h .0) i) (value-bytes 4 right (h .1) i)
+recordOf-written (Row object c0 c1 c2 c3 c4 c5) q h =
+    λ i. Row
+    (value-bytes 1 object (h .0) i)
+    (value-bytes 4 c0 (h .1) i)
+    (value-bytes 4 c1 (h .2) i)
+    (value-bytes 4 c2 (h .3) i)
+    (value-bytes 4 c3 (h .4) i)
+    (value-bytes 4 c4 (h .5) i)
+    (value-bytes 4 c5 (h .6) i)
+recordOf-written (Declared set) q h = λ i. Declared (value-bytes 4 set h i)
+recordOf-written (Removed set) q h = λ i. Removed (value-bytes 4 set h i)
+recordOf-written (Item variable attribute) q h =
+    λ i. Item (value-bytes 1 variable (h .0) i) (value-bytes 1 attribute (h .1) i)
+recordOf-written (CompareTwo variable attribute operator variable2 attribute2) q h =
+    λ i. CompareTwo
+    (value-bytes 1 variable (h .0) i)
+    (value-bytes 1 attribute (h .1) i)
+    (value-bytes 1 operator (h .2) i)
+    (value-bytes 1 variable2 (h .3) i)
+    (value-bytes 1 attribute2 (h .4) i)
+recordOf-written (CompareConstant variable attribute operator cell) q h =
+    λ i. CompareConstant
+    (value-bytes 1 variable (h .0) i)
+    (value-bytes 1 attribute (h .1) i)
+    (value-bytes 1 operator (h .2) i)
+    (value-bytes 4 cell (h .3) i)
+recordOf-written End q h = refl
+
+-- The fields of a body, written one after another, are the body's first bytes.
+module _ (b : List ℕ) {n : ℕ} (given : AreBytes b) (fits : n ≤ length b) where
+  first-field : (w : ℕ) → leb w n ≡ true → bytes w (field w b 0) ≡ take w b
+  first-field w e = bytes-field w b 0 given (omega (arith, leb-true w n e))
+
+  next-field : (k j w : ℕ) → k ≡ j → leb (j + w) n ≡ true → take k b ++ bytes w (field w b j) ≡ take (j + w) b
+  next-field k j w p e =
+      rw (p, bytes-field w b j given (omega (arith, leb-true (j + w) n e))) (sym (take-add j w b))
+
+-- A body as long as its kind says is written as it stood.
+pub bytesOf-recordOf : (b : List ℕ) (k : ℕ) → AreBytes b → isKind k ≡ true → bodyLength k ≤ length b
+    → bytesOf (recordOf k b) ≡ k ∷ take (bodyLength k) b
+unfolding recordOf bodies bytesOf bodyLength bodyLengths
+bytesOf-recordOf b k given =
+    by-kind (λ k. bodyLength k ≤ length b → bytesOf (recordOf k b) ≡ k ∷ take (bodyLength k) b)
+    (λ fits. simp (first-field b given fits, next-field b given fits))
+    (λ fits. simp (first-field b given fits, next-field b given fits))
+    (λ fits. simp (first-field b given fits, next-field b given fits))
+    (λ fits. simp (first-field b given fits, next-field b given fits))
+    (λ fits. simp (first-field b given fits))
+    (λ fits. simp (first-field b given fits))
+    (λ fits. simp (first-field b given fits, next-field b given fits))
+    (λ fits. simp (first-field b given fits, next-field b given fits))
+    (λ fits. simp (first-field b given fits, next-field b given fits))
+    (λ fits. refl)
+    k
+
+pub kindOf-recordOf : (b : List ℕ) (k : ℕ) → isKind k ≡ true → kindOf (recordOf k b) ≡ k
+unfolding recordOf bodies kindOf
+kindOf-recordOf b = by-kind (λ k. kindOf (recordOf k b) ≡ k) refl refl refl refl refl refl refl refl refl refl
+
+-- A body of bytes gives fields that fit.
+pub inWidth-recordOf : (b : List ℕ) (k : ℕ) → AreBytes b → isKind k ≡ true → InWidth (recordOf k b)
+unfolding recordOf bodies InWidth
+inWidth-recordOf b k given =
+    let small : (j : ℕ) → Small (field 1 b j) = λ j. field-below 1 b j given in
+    let wide : (j : ℕ) → Wide (field 4 b j) = λ j. field-below 4 b j given in
+    by-kind (λ k. InWidth (recordOf k b))
+    (small 0, small 1)
+    (small 0, wide 1)
+    (wide 0, wide 4)
+    (small 0, wide 1, wide 5, wide 9, wide 13, wide 17, wide 21)
+    (wide 0)
+    (wide 0)
+    (small 0, small 1)
+    (small 0, small 1, small 2, small 3, small 4)
+    (small 0, small 1, small 2, wide 3)
+    tt
+    k
+
+-- ---- each record at its place: the record of kind k whose body starts at position b of s, from the fields there
+
+pub attribute-at : (s : List ℕ) (k b id kind : ℕ) → k ≡ 1
+    → id ≡ field 1 s b → kind ≡ field 1 s (b + 1) → Attribute id kind ≡ recordOf k (drop b s)
+unfolding recordOf bodies
+attribute-at s k b id kind e e0 e1 = simp (e, e0, e1, field-drop, add-zero)
+
+pub object-at : (s : List ℕ) (k b number set : ℕ) → k ≡ 2
+    → number ≡ field 1 s b → set ≡ field 4 s (b + 1) → Object number set ≡ recordOf k (drop b s)
+unfolding recordOf bodies
+object-at s k b number set e e0 e1 = simp (e, e0, e1, field-drop, add-zero)
+
+pub dependency-at : (s : List ℕ) (k b left right : ℕ) → k ≡ 3
+    → left ≡ field 4 s b → right ≡ field 4 s (b + 4) → Dependency left right ≡ recordOf k (drop b s)
+unfolding recordOf bodies
+dependency-at s k b left right e e0 e1 = simp (e, e0, e1, field-drop, add-zero)
+
+pub row-at : (s : List ℕ) (k b object c0 c1 c2 c3 c4 c5 : ℕ) → k ≡ 4
+    → object ≡ field 1 s b → c0 ≡ field 4 s (b + 1) → c1 ≡ field 4 s (b + 5) → c2 ≡ field 4 s (b + 9)
+    → c3 ≡ field 4 s (b + 13) → c4 ≡ field 4 s (b + 17) → c5 ≡ field 4 s (b + 21)
+    → Row object c0 c1 c2 c3 c4 c5 ≡ recordOf k (drop b s)
+unfolding recordOf bodies
+row-at s k b object c0 c1 c2 c3 c4 c5 e e0 e1 e2 e3 e4 e5 e6 =
+    simp (e, e0, e1, e2, e3, e4, e5, e6, field-drop, add-zero)
+
+pub declared-at : (s : List ℕ) (k b set : ℕ) → k ≡ 5
+    → set ≡ field 4 s b → Declared set ≡ recordOf k (drop b s)
+unfolding recordOf bodies
+declared-at s k b set e e0 = simp (e, e0, field-drop, add-zero)
+
+pub removed-at : (s : List ℕ) (k b set : ℕ) → k ≡ 6
+    → set ≡ field 4 s b → Removed set ≡ recordOf k (drop b s)
+unfolding recordOf bodies
+removed-at s k b set e e0 = simp (e, e0, field-drop, add-zero)
+
+pub item-at : (s : List ℕ) (k b variable attribute : ℕ) → k ≡ 7
+    → variable ≡ field 1 s b → attribute ≡ field 1 s (b + 1) → Item variable attribute ≡ recordOf k (drop b s)
+unfolding recordOf bodies
+item-at s k b variable attribute e e0 e1 = simp (e, e0, e1, field-drop, add-zero)
+
+pub compareTwo-at : (s : List ℕ) (k b variable attribute operator variable2 attribute2 : ℕ) → k ≡ 8
+    → variable ≡ field 1 s b → attribute ≡ field 1 s (b + 1) → operator ≡ field 1 s (b + 2)
+    → variable2 ≡ field 1 s (b + 3) → attribute2 ≡ field 1 s (b + 4)
+    → CompareTwo variable attribute operator variable2 attribute2 ≡ recordOf k (drop b s)
+unfolding recordOf bodies
+compareTwo-at s k b variable attribute operator variable2 attribute2 e e0 e1 e2 e3 e4 =
+    simp (e, e0, e1, e2, e3, e4, field-drop, add-zero)
+
+pub compareConstant-at : (s : List ℕ) (k b variable attribute operator cell : ℕ) → k ≡ 9
+    → variable ≡ field 1 s b → attribute ≡ field 1 s (b + 1) → operator ≡ field 1 s (b + 2)
+    → cell ≡ field 4 s (b + 3) → CompareConstant variable attribute operator cell ≡ recordOf k (drop b s)
+unfolding recordOf bodies
+compareConstant-at s k b variable attribute operator cell e e0 e1 e2 e3 =
+    simp (e, e0, e1, e2, e3, field-drop, add-zero)
+
+pub end-at : (s : List ℕ) (k b : ℕ) → k ≡ 10 → End ≡ recordOf k (drop b s)
+unfolding recordOf bodies
+end-at s k b e = simp e

@@ -1,0 +1,96 @@
+-- The records of books and queries, and the bytes that each is: "Records" of the paper, in the order of its table.
+-- In order: kinds and body lengths, the bytes of a record and of records, the widths of fields.
+-- Not here: which values a field may have, and which kinds a book and a query allow.
+-- Assumes nothing.
+use mathlib.Core.Bool.{Bool, _&&_}
+use mathlib.Core.List.{List, [], _∷_, _++_}
+use Prim.Native.Nat.{ℕ, _^_, _<_}
+use lib.Dec.{leb}
+use lib.ListN.{getD}
+use Rattle.records.specs.Fields.{bytes}
+use Rattle.records.specs.declared.Record.{Record}
+use Rattle.records.specs.declared.Record.the-variants.{Attribute, Object, Dependency, Row, Declared, Removed}
+use Rattle.records.specs.declared.Record.the-variants.{Item, CompareTwo, CompareConstant, End}
+
+-- The kinds of the table are 1 to 10.
+unfoldable pub isKind : ℕ → Bool
+isKind k = leb 1 k && leb k 10
+
+-- "a body whose length the kind fixes": the bytes of each kind's body.
+unfoldable pub bodyLengths : List ℕ
+bodyLengths =
+    0  -- no kind
+    ∷ 2  -- 1: id, value kind
+    ∷ 5  -- 2: number, set
+    ∷ 8  -- 3: set, set
+    ∷ 25  -- 4: object, six cells
+    ∷ 4  -- 5: set of objects
+    ∷ 4  -- 6: set of objects
+    ∷ 2  -- 7: variable, attribute
+    ∷ 5  -- 8: variable, attribute, operator, variable, attribute
+    ∷ 7  -- 9: variable, attribute, operator, cell
+    ∷ 0  -- 10: none
+    ∷ []
+
+-- The bytes of the body of kind k; 0 for a number that is no kind.
+unfoldable pub bodyLength : ℕ → ℕ
+bodyLength k = getD bodyLengths k 0
+
+unfoldable pub kindOf : Record → ℕ
+kindOf (Attribute id kind) = 1
+kindOf (Object number set) = 2
+kindOf (Dependency left right) = 3
+kindOf (Row object c0 c1 c2 c3 c4 c5) = 4
+kindOf (Declared set) = 5
+kindOf (Removed set) = 6
+kindOf (Item variable attribute) = 7
+kindOf (CompareTwo variable attribute operator variable2 attribute2) = 8
+kindOf (CompareConstant variable attribute operator cell) = 9
+kindOf End = 10
+
+-- "A record is one byte of kind, then a body". "Single fields are one byte", a set and a cell four.
+unfoldable pub bytesOf : Record → List ℕ
+bytesOf (Attribute id kind) = 1 ∷ bytes 1 id ++ bytes 1 kind
+bytesOf (Object number set) = 2 ∷ bytes 1 number ++ bytes 4 set
+bytesOf (Dependency left right) = 3 ∷ bytes 4 left ++ bytes 4 right
+bytesOf (Row object c0 c1 c2 c3 c4 c5) =
+    4 ∷ bytes 1 object ++ bytes 4 c0 ++ bytes 4 c1 ++ bytes 4 c2 ++ bytes 4 c3 ++ bytes 4 c4 ++ bytes 4 c5
+bytesOf (Declared set) = 5 ∷ bytes 4 set
+bytesOf (Removed set) = 6 ∷ bytes 4 set
+bytesOf (Item variable attribute) = 7 ∷ bytes 1 variable ++ bytes 1 attribute
+bytesOf (CompareTwo variable attribute operator variable2 attribute2) =
+    8 ∷ bytes 1 variable ++ bytes 1 attribute ++ bytes 1 operator ++ bytes 1 variable2 ++ bytes 1 attribute2
+bytesOf (CompareConstant variable attribute operator cell) =
+    9 ∷ bytes 1 variable ++ bytes 1 attribute ++ bytes 1 operator ++ bytes 4 cell
+bytesOf End = 10 ∷ []
+
+-- The bytes of records that stand one after another.
+unfoldable pub bytesOfAll : List Record → List ℕ
+bytesOfAll [] = []
+bytesOfAll (r ∷ rs) = bytesOf r ++ bytesOfAll rs
+
+-- A single field is below 2 ^ 8, a set or a cell below 2 ^ 32.
+abbrev pub Small : ℕ → Type 0
+Small n = n < 2 ^ 8
+
+abbrev pub Wide : ℕ → Type 0
+Wide n = n < 2 ^ 32
+
+-- Each field of the record fits its bytes.
+unfoldable pub InWidth : Record → Type 0
+InWidth (Attribute id kind) = Small id × Small kind
+InWidth (Object number set) = Small number × Wide set
+InWidth (Dependency left right) = Wide left × Wide right
+InWidth (Row object c0 c1 c2 c3 c4 c5) = Small object × Wide c0 × Wide c1 × Wide c2 × Wide c3 × Wide c4 × Wide c5
+InWidth (Declared set) = Wide set
+InWidth (Removed set) = Wide set
+InWidth (Item variable attribute) = Small variable × Small attribute
+InWidth (CompareTwo variable attribute operator variable2 attribute2) =
+    Small variable × Small attribute × Small operator × Small variable2 × Small attribute2
+InWidth (CompareConstant variable attribute operator cell) =
+    Small variable × Small attribute × Small operator × Wide cell
+InWidth End = Unit {0}
+
+unfoldable pub AllInWidth : List Record → Type 0
+AllInWidth [] = Unit {0}
+AllInWidth (r ∷ rs) = InWidth r × AllInWidth rs
