@@ -1,0 +1,5 @@
+-- The definitions of `scheme`, in the order to read them. Assumes nothing.
+pub mod Dependencies
+pub mod Growing
+pub mod MaximalObjects
+pub mod OfScheme

@@ -1,0 +1,24 @@
+// What the trials write: single characters, numbers and words.
+use libc::STDOUT_FILENO;
+
+pub fn put(b: u8) {
+    let one = [b];
+    io::write_all(STDOUT_FILENO, &one);
+}
+
+pub fn word(s: &[u8]) {
+    io::write_all(STDOUT_FILENO, s);
+}
+
+pub fn number(n: u64) {
+    io::print_decimal(STDOUT_FILENO, n);
+}
+
+// 1 for true and 0 for false.
+pub fn flag(b: bool) {
+    if b {
+        put(b'1');
+    } else {
+        put(b'0');
+    }
+}
