@@ -1,0 +1,157 @@
+-- Worked examples: the paper's printout and what its tables show, each as what the definitions give beside what is
+-- expected.
+-- In order: the tables, kept sets and joins, the objects that may stand, tables that agree and tables that do not.
+-- Assumes nothing.
+use mathlib.Core.Path.{_≡_, refl, sym, subst₂}
+use mathlib.Core.List.{List, [], _∷_, map, List·Memᴰ, List·Memᴰ·head, List·Memᴰ·tail, List·Memᴰ·not-nil}
+use mathlib.Core.List.{head-eq-of-cons-eq}
+use Prim.Native.Nat.{ℕ, _<_}
+use native.Mathlib.Omega.{arith}
+use lib.Dec.{lit<}
+use Rattle.sets.specs.Sets.{bit, has, within, _∩_, _∪_, single, isEmpty, rank, members}
+use Rattle.sets.proofs.Sets.{yes-within}
+use Rattle.values.specs.Values.{matches}
+use Rattle.reduction.specs.Kept.{union, around, someHolds, removable, stays, staying, settle, left}
+use Rattle.reduction.specs.Kept.{goesFor, goes, keeps, keptOf, kept}
+use Rattle.relation.specs.Tables.{cellOf, Table, SameRows, family, projected, project}
+use Rattle.relation.specs.Joins.{AgreePairwise, together, StandFor, none, one, shown, keptSets, lowestFor}
+use Rattle.relation.specs.Joins.{lowestStanding}
+use Rattle.relation.specs.Computed.{allPass, rowsMatch, matchesAll, eachPassing, goingOn, joinRows, part}
+
+-- ---- the tables
+
+-- "attributes 0 STATION, 1 LEAD, 2 TRIP (names), 3 DEPTH (length)"
+unfoldable pub kinds : List ℕ
+kinds = 0 ∷ 0 ∷ 0 ∷ 1 ∷ []
+
+-- "objects 0 {0,1}, 1 {0,2}, 2 {0,3}" and their rows, -2500 and -900 in two's complement
+unfoldable pub survey : List Table
+survey =
+    record { set = 3; rows = (10 ∷ 501 ∷ []) ∷ (11 ∷ 502 ∷ []) ∷ (12 ∷ 503 ∷ []) ∷ [] }
+    ∷ record { set = 5; rows = (10 ∷ 7 ∷ []) ∷ (11 ∷ 7 ∷ []) ∷ (13 ∷ 7 ∷ []) ∷ [] }
+    ∷ record { set = 9; rows = (10 ∷ 4294964796 ∷ []) ∷ (12 ∷ 4294966396 ∷ []) ∷ [] }
+    ∷ []
+
+-- leads and trips of the same two stations; station 10 has two leads and two trips
+abbrev pub leads : Table
+leads = record { set = 3; rows = (10 ∷ 501 ∷ []) ∷ (10 ∷ 504 ∷ []) ∷ (11 ∷ 502 ∷ []) ∷ [] }
+
+abbrev pub trips : Table
+trips = record { set = 5; rows = (10 ∷ 7 ∷ []) ∷ (10 ∷ 8 ∷ []) ∷ (11 ∷ 7 ∷ []) ∷ [] }
+
+unfoldable pub paired : List Table
+paired = leads ∷ trips ∷ []
+
+-- stations, and a table of trips that shares nothing with them and has no row
+unfoldable pub apart : List Table
+apart = record { set = 1; rows = (10 ∷ []) ∷ [] } ∷ record { set = 4; rows = [] } ∷ []
+
+-- ---- kept sets and joins
+
+pub record Trial : Type 0 where
+  pub gives : List (List ℕ)
+  pub says : List (List ℕ)
+
+-- the join over the kept sets of columns X where the objects at the places cs stand for them
+abbrev pub keptJoin : List Table → ℕ → List ℕ → List (List ℕ)
+keptJoin Ts X cs = joinRows kinds (shown Ts (keptSets Ts X) cs) X
+
+unfoldable pub trials : List Trial
+trials =
+    -- "Sacred {1,2} keeps {0,1} and {0,2}"; object 0 shows the one and object 1 the other
+    record {
+      gives = keptSets survey 6 ∷ lowestStanding survey (keptSets survey 6) ∷ [];
+      says = (3 ∷ 5 ∷ []) ∷ (0 ∷ 1 ∷ []) ∷ [];
+    }
+    -- query 1 of the printout, LEAD and TRIP
+    ∷ record { gives = part kinds survey 6; says = (501 ∷ 7 ∷ []) ∷ (502 ∷ 7 ∷ []) ∷ [] }
+    -- query 2 before its comparison: LEAD, TRIP and DEPTH
+    ∷ record { gives = part kinds survey 14; says = (501 ∷ 7 ∷ 4294964796 ∷ []) ∷ [] }
+    -- "Sacred {0} keeps {0}"; all three objects contain it and object 0 shows it
+    ∷ record {
+      gives = keptSets survey 1 ∷ lowestStanding survey (keptSets survey 1) ∷ [];
+      says = (1 ∷ []) ∷ (0 ∷ []) ∷ [];
+    }
+    -- query 3, STATION
+    ∷ record { gives = part kinds survey 1; says = (10 ∷ []) ∷ (11 ∷ []) ∷ (12 ∷ []) ∷ [] }
+    -- the same kept set shown by object 1 and by object 2: other rows, since the tables do not agree
+    ∷ record { gives = family (shown survey (keptSets survey 1) (1 ∷ [])) ∷ []; says = (1 ∷ []) ∷ [] }
+    ∷ record { gives = keptJoin survey 1 (1 ∷ []); says = (10 ∷ []) ∷ (11 ∷ []) ∷ (13 ∷ []) ∷ [] }
+    ∷ record { gives = family (shown survey (keptSets survey 1) (2 ∷ [])) ∷ []; says = (1 ∷ []) ∷ [] }
+    ∷ record { gives = keptJoin survey 1 (2 ∷ []); says = (10 ∷ []) ∷ (12 ∷ []) ∷ [] }
+    -- the full join on STATION has fewer rows than each of the three
+    ∷ record { gives = joinRows kinds survey 1; says = (10 ∷ []) ∷ [] }
+    -- "where they share none, both are empty or neither is": else a row is shown that the full join lacks
+    ∷ record { gives = part kinds apart 1; says = (10 ∷ []) ∷ [] }
+    ∷ record { gives = joinRows kinds apart 1; says = [] }
+    -- where the tables agree, the full join on STATION and what either object shows: the same rows, a row found more
+    -- than once counting once
+    ∷ record {
+      gives = joinRows kinds paired 1;
+      says = (10 ∷ []) ∷ (10 ∷ []) ∷ (10 ∷ []) ∷ (10 ∷ []) ∷ (11 ∷ []) ∷ [];
+    }
+    ∷ record { gives = keptJoin paired 1 (0 ∷ []); says = (10 ∷ []) ∷ (10 ∷ []) ∷ (11 ∷ []) ∷ [] }
+    ∷ record { gives = keptJoin paired 1 (1 ∷ []); says = (10 ∷ []) ∷ (10 ∷ []) ∷ (11 ∷ []) ∷ [] }
+    ∷ []
+
+pub trials-hold : map (λ t. t .gives) trials ≡ map (λ t. t .says) trials
+unfolding trials survey paired apart kinds part joinRows goingOn eachPassing matchesAll rowsMatch allPass together shown
+    project projected cellOf lowestStanding lowestFor kept keptOf keeps goes goesFor left settle staying stays
+    removable someHolds around union bit has within _∩_ _∪_ single isEmpty rank members matches
+trials-hold = refl
+
+-- ---- the objects that may stand
+
+-- each object may stand for the kept set {0}: the kept objects differ by the choice, the kept set does not
+pub each-may-stand : StandFor survey (keptSets survey 1) (0 ∷ []) × StandFor survey (keptSets survey 1) (1 ∷ [])
+    × StandFor survey (keptSets survey 1) (2 ∷ [])
+unfolding survey kept keptOf keeps goes goesFor left settle staying stays removable someHolds around union bit has
+    within _∩_ _∪_ single isEmpty
+each-may-stand = (
+  one (lit< tt) (yes-within 1 3 refl) none,
+  one (lit< tt) (yes-within 1 5 refl) none,
+  one (lit< tt) (yes-within 1 9 refl) none,
+)
+
+-- ---- tables that agree and tables that do not
+
+abbrev Shared : Table → Table → Type 0
+Shared T U = SameRows (project (T .set ∩ U .set) T) (project (T .set ∩ U .set) U)
+
+-- two tables agree pairwise if they show the same rows
+two-agree : (T U : Table) → Shared T U → Shared U T → AgreePairwise (T ∷ U ∷ [])
+two-agree T U tu ut = record { shared = shared }
+  where
+    self : (T : Table) → Shared T T
+    self T = record { firstInSecond = λ row m. m; secondInFirst = λ row m. m }
+
+    shared : (V₁ V₂ : Table) → List·Memᴰ V₁ (T ∷ U ∷ []) → List·Memᴰ V₂ (T ∷ U ∷ []) → Shared V₁ V₂
+    shared V₁ V₂ (List·Memᴰ·head p) (List·Memᴰ·head q) = subst₂ Shared (sym p) (sym q) (self T)
+    shared V₁ V₂ (List·Memᴰ·head p) (List·Memᴰ·tail (List·Memᴰ·head q)) = subst₂ Shared (sym p) (sym q) tu
+    shared V₁ V₂ (List·Memᴰ·tail (List·Memᴰ·head p)) (List·Memᴰ·head q) = subst₂ Shared (sym p) (sym q) ut
+    shared V₁ V₂ (List·Memᴰ·tail (List·Memᴰ·head p)) (List·Memᴰ·tail (List·Memᴰ·head q)) =
+        subst₂ Shared (sym p) (sym q) (self U)
+    shared V₁ V₂ (List·Memᴰ·tail (List·Memᴰ·tail m)) n = absurd (List·Memᴰ·not-nil m)
+    shared V₁ V₂ (List·Memᴰ·head p) (List·Memᴰ·tail (List·Memᴰ·tail n)) = absurd (List·Memᴰ·not-nil n)
+    shared V₁ V₂ (List·Memᴰ·tail (List·Memᴰ·head p)) (List·Memᴰ·tail (List·Memᴰ·tail n)) = absurd (List·Memᴰ·not-nil n)
+
+-- on the station the leads and the trips of `paired` show the same rows
+pub paired-agree : AgreePairwise paired
+unfolding paired project projected cellOf rank members has bit _∩_
+paired-agree =
+    two-agree leads trips (record { firstInSecond = λ row m. m; secondInFirst = λ row m. m })
+    (record { firstInSecond = λ row m. m; secondInFirst = λ row m. m })
+
+-- the survey has a lead at station 12 and no trip there
+pub survey-disagrees : AgreePairwise survey → ⊥
+unfolding survey project projected cellOf rank members has bit _∩_
+survey-disagrees agree =
+    no-trip (agree .shared _ _ (List·Memᴰ·head refl) (List·Memᴰ·tail (List·Memᴰ·head refl)) .firstInSecond (12 ∷ [])
+    (List·Memᴰ·tail (List·Memᴰ·tail (List·Memᴰ·head refl))))
+  where
+    no-trip : List·Memᴰ {A = List ℕ} (12 ∷ []) ((10 ∷ []) ∷ (11 ∷ []) ∷ (13 ∷ []) ∷ []) → ⊥
+    no-trip (List·Memᴰ·head e) = let z : _≡_ {A = ℕ} 12 10 = head-eq-of-cons-eq e in omega arith
+    no-trip (List·Memᴰ·tail (List·Memᴰ·head e)) = let z : _≡_ {A = ℕ} 12 11 = head-eq-of-cons-eq e in omega arith
+    no-trip (List·Memᴰ·tail (List·Memᴰ·tail (List·Memᴰ·head e))) =
+        let z : _≡_ {A = ℕ} 12 13 = head-eq-of-cons-eq e in omega arith
+    no-trip (List·Memᴰ·tail (List·Memᴰ·tail (List·Memᴰ·tail m))) = List·Memᴰ·not-nil m

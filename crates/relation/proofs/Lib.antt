@@ -1,0 +1,9 @@
+-- The laws of `relation` that callers cite. Assumes nothing.
+pub mod Tables
+pub mod Fitting
+pub mod KeptSets
+pub mod Backwards
+pub mod Standing
+pub mod Computed
+pub mod Theorems
+pub mod Examples

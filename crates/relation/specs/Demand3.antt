@@ -1,0 +1,29 @@
+-- Demand 3, for the tables of a maximal object and wanted columns X: "every complete list of permitted reduction
+-- steps, of either form, ends with exactly the program's kept sets; and whichever objects stand for the kept sets,
+-- the join over them has every row of the full join on those columns, and no other where the tables agree pairwise."
+-- `demand3` of `proofs/Theorems.antt` proves it for all tables over attributes 0 to 31, whatever their rows, and every
+-- non-empty X of their attributes.
+-- Assumes nothing.
+use mathlib.Core.Logic.{_↔_}
+use mathlib.Core.List.{List}
+use Prim.Native.Nat.{ℕ}
+use Rattle.reduction.specs.Statements.{KeptByEveryList}
+use Rattle.relation.specs.Tables.{Row, Table, family}
+use Rattle.relation.specs.Joins.{AgreePairwise, InFullJoin, StandFor, keptSets, InKeptJoin, lowestStanding}
+
+pub record Demand3 (kinds : List ℕ) (Ts : List Table) (X : ℕ) : Type 0 where
+  -- "every complete list of permitted reduction steps, of either form, ends with exactly the program's kept sets",
+  -- "equal to them as a set of attribute sets, with none left twice"; and complete lists of both forms exist
+  pub everyList : KeptByEveryList X (family Ts)
+  -- "each kept set is shown by the lowest-numbered object of M that contains it": this choice is one of those that may
+  -- stand, so there is one, and what follows holds of it
+  pub programsChoice : StandFor Ts (keptSets Ts X) (lowestStanding Ts (keptSets Ts X))
+  -- "whichever objects stand for the kept sets, the join over them has every row of the full join on those columns"
+  pub everyRow : (cs : List ℕ) → StandFor Ts (keptSets Ts X) cs → (row : Row) → InFullJoin kinds Ts X row
+      → InKeptJoin kinds Ts X cs row
+  -- "and no other where the tables agree pairwise"
+  pub noOther : AgreePairwise Ts → (cs : List ℕ) → StandFor Ts (keptSets Ts X) cs → (row : Row)
+      → InKeptJoin kinds Ts X cs row → InFullJoin kinds Ts X row
+  -- "compares it with the full join on X, as sets of rows, for every such choice": there the two are equal
+  pub equal : AgreePairwise Ts → (cs : List ℕ) → StandFor Ts (keptSets Ts X) cs → (row : Row)
+      → InFullJoin kinds Ts X row ↔ InKeptJoin kinds Ts X cs row

@@ -1,0 +1,57 @@
+-- What is proved of joins, for all tables over attributes 0 to 31, whatever their rows. Demand 3 as a whole is in
+-- `Demand3`; here are its parts on joins and what stands beside them.
+-- In order: tables that share no attribute, no row is lost, no other row, the lowest-numbered objects, computed joins.
+-- The proofs are in `proofs/Theorems.antt`.
+-- Assumes nothing.
+use mathlib.Core.Path.{_≡_}
+use mathlib.Core.List.{List, [], List·Memᴰ}
+use Prim.Native.Nat.{ℕ, _<_}
+use lib.ListN.{length, getD}
+use Rattle.sets.specs.Sets.{_⊆_, _∩_}
+use Rattle.reduction.specs.Steps.{at}
+use Rattle.relation.specs.Tables.{Row, Table, SameRows, tableAt, project}
+use Rattle.relation.specs.Joins.{AgreePairwise, Picked, Matching, InJoin, InFullJoin, StandFor, keptSets}
+use Rattle.relation.specs.Joins.{InKeptJoin, lowestStanding}
+use Rattle.relation.specs.Computed.{combinations, joinRows, part}
+
+-- "where they share none, both are empty or neither is": of two tables that share no attribute, to show the same rows
+-- on the attributes shared is exactly this
+pub record NothingShared (T U : Table) : Type 0 where
+  pub both : SameRows (project (T .set ∩ U .set) T) (project (T .set ∩ U .set) U)
+      → (T .rows ≡ [] → U .rows ≡ []) × (U .rows ≡ [] → T .rows ≡ [])
+  pub back : (T .rows ≡ [] → U .rows ≡ []) × (U .rows ≡ [] → T .rows ≡ [])
+      → SameRows (project (T .set ∩ U .set) T) (project (T .set ∩ U .set) U)
+
+-- "whichever objects stand for the kept sets, the join over them has every row of the full join on those columns"
+pub record EveryRow (kinds : List ℕ) (Ts : List Table) (X : ℕ) : Type 0 where
+  pub kept : (cs : List ℕ) → StandFor Ts (keptSets Ts X) cs → (row : Row) → InFullJoin kinds Ts X row
+      → InKeptJoin kinds Ts X cs row
+
+-- ".. and no other where the tables agree pairwise"
+pub record NoOtherRow (kinds : List ℕ) (Ts : List Table) (X : ℕ) : Type 0 where
+  pub agreed : AgreePairwise Ts → (cs : List ℕ) → StandFor Ts (keptSets Ts X) cs → (row : Row)
+      → InKeptJoin kinds Ts X cs row → InFullJoin kinds Ts X row
+
+-- "each kept set is shown by the lowest-numbered object of M that contains it": this is one of the choices, and no
+-- object before the chosen one contains the kept set
+pub record LowestStands (Ts : List Table) (X : ℕ) : Type 0 where
+  pub stands : StandFor Ts (keptSets Ts X) (lowestStanding Ts (keptSets Ts X))
+  pub lowest : (k i : ℕ) → k < length (keptSets Ts X) → i < getD (lowestStanding Ts (keptSets Ts X)) k 0
+      → at (keptSets Ts X) k ⊆ tableAt Ts i .set → ⊥
+
+-- the combinations found by early tests are exactly the choices of "one row of each table, cells matching under every
+-- attribute that two of the tables share"; and so the rows computed are exactly those of the natural join projected
+-- to X
+pub record JoinComputed (kinds : List ℕ) (Ts : List Table) (X : ℕ) : Type 0 where
+  pub found : (rs : List Row) → List·Memᴰ rs (combinations kinds Ts) → Picked Ts rs × Matching kinds Ts rs
+  pub finds : (rs : List Row) → Picked Ts rs → Matching kinds Ts rs → List·Memᴰ rs (combinations kinds Ts)
+  pub rowFound : (row : Row) → List·Memᴰ row (joinRows kinds Ts X) → InJoin kinds Ts X row
+  pub findsRow : (row : Row) → InJoin kinds Ts X row → List·Memᴰ row (joinRows kinds Ts X)
+
+-- "Their natural join, projected to X, is M's part": the part has exactly the rows of the join over the kept sets for
+-- the lowest-numbered objects
+pub record PartComputed (kinds : List ℕ) (Ts : List Table) (X : ℕ) : Type 0 where
+  pub rowFound : (row : Row) → List·Memᴰ row (part kinds Ts X)
+      → InKeptJoin kinds Ts X (lowestStanding Ts (keptSets Ts X)) row
+  pub findsRow : (row : Row) → InKeptJoin kinds Ts X (lowestStanding Ts (keptSets Ts X)) row
+      → List·Memᴰ row (part kinds Ts X)
