@@ -7,3 +7,4 @@ pub mod Standing
 pub mod Computed
 pub mod Theorems
 pub mod Examples
+pub mod BookRows

@@ -4,4 +4,5 @@ pub mod Demand3
 pub mod Tables
 pub mod Joins
 pub mod Computed
+pub mod BookRows
 pub mod Statements

@@ -1,6 +1,6 @@
 -- The members of a set as an ascending list, for every width together. A list of members grows at its end, so each law
 -- goes by one step of the width.
--- In order: who is in the list, its length, the place of a member, its order.
+-- In order: who is in the list, its length, the place of a member, its order, its first member.
 -- Assumes nothing.
 use mathlib.Core.Path.{_≡_, refl, sym, ap, ap₂, _∙_, subst}
 use mathlib.Core.Bool.{Bool, true, false}
@@ -12,10 +12,11 @@ use native.Mathlib.Nat.{add-zero, not-suc-le-zero, le-of-suc-le-suc, eq-or-lt-of
 use native.Mathlib.Omega.{arith}
 use lib.ListN.{length, getD, length-append, List·getD-append}
 use lib.Seq.{getD-at}
-use Rattle.sets.specs.Sets.{bit, _∈_, _∉_, has, rank, count, kept, members}
+use Rattle.sets.specs.Sets.{bit, _∈_, _∉_, has, single, remove, rank, count, lowest, kept, members}
 use Rattle.sets.proofs.Numbers.{lt-or-le}
-use Rattle.sets.proofs.Sets.{has-yes, yes-has, no-has}
-use Rattle.sets.proofs.Ranks.{rank-mono, rank-lt, rank-inj}
+use Rattle.sets.proofs.Bits.{member-or-not, in-out, not-in}
+use Rattle.sets.proofs.Sets.{has-yes, has-no, yes-has, no-has, ∖-left, remove-in, remove-out}
+use Rattle.sets.proofs.Ranks.{rank-mono, rank-lt, rank-inj, lowest-in, below-lowest}
 
 -- ---- one step of the width
 
@@ -108,3 +109,49 @@ members-ascending w s d {i} {j} h l =
     let a : MemberAt w s i (getD (members w s) i d) = member-at w s d i (lt-trans h l) in
     let b : MemberAt w s j (getD (members w s) j d) = member-at w s d j l in
     lt-of-not-le (λ g. absurd (omega (arith, rank-mono s g, a .placed, b .placed)))
+
+-- ---- the lowest member comes first
+
+none-below : (w : ℕ) {s : ℕ} → ((j : ℕ) → j < w → j ∉ s) → members w s ≡ []
+unfolding members
+none-below zero n = refl
+none-below (suc w) {s} n =
+    ap₂ (λ (l : List ℕ) (b : Bool). l ++ kept b w) (none-below w (λ j h. n j (lt-trans h (le-refl (suc w)))))
+    (has-no (n w (le-refl (suc w))))
+
+-- the test of another member is not changed by a removal
+has-remove-other : {j k : ℕ} (s : ℕ) → (j ≡ k → ⊥) → has (remove s k) j ≡ has s j
+has-remove-other {j} {k} s n =
+    ⊎-elim (λ i. has-yes (remove-in i n) ∙ sym (has-yes i)) (λ o. has-no (out o) ∙ sym (has-no o)) (member-or-not j s)
+  where
+    out : j ∉ s → j ∉ remove s k
+    out o = not-in (λ i. in-out (∖-left s (single k) i) o)
+
+pub members-first : {s k : ℕ} (w : ℕ) → k < w → k ∈ s → ((j : ℕ) → j < k → j ∉ s) → members w s ≡ k ∷ members w (remove s k)
+unfolding members
+members-first zero h i n = absurd (not-suc-le-zero h)
+members-first {s} {k} (suc w) h i n =
+    ⊎-elim here (λ l. later l (members-first w l i n)) (eq-or-lt-of-le (le-of-suc-le-suc h))
+  where
+    later : k < w → members w s ≡ k ∷ members w (remove s k)
+        → members w s ++ kept (has s w) w ≡ k ∷ (members w (remove s k) ++ kept (has (remove s k) w) w)
+    later l ih =
+        ap₂ (λ (x : List ℕ) (b : Bool). x ++ kept b w) ih (sym (has-remove-other s (λ e. absurd (omega arith))))
+
+    here : k ≡ w → members w s ++ kept (has s w) w ≡ k ∷ (members w (remove s k) ++ kept (has (remove s k) w) w)
+    here e =
+        ap₂ (λ (x : List ℕ) (b : Bool). x ++ kept b w) (none-below w (λ j l. n j (omega arith)))
+        (has-yes (subst (λ (x : ℕ). x ∈ s) e i))
+        ∙ ap₂ (λ (x : ℕ) (l : List ℕ). x ∷ l) (sym e) (sym rest-empty)
+      where
+        gone : (j : ℕ) → j < w → j ∉ remove s k
+        gone j l = not-in (λ m. in-out (∖-left s (single k) m) (n j (omega arith)))
+
+        rest-empty : members w (remove s k) ++ kept (has (remove s k) w) w ≡ []
+        rest-empty =
+            ap₂ (λ (x : List ℕ) (b : Bool). x ++ kept b w) (none-below w gone)
+            (has-no (subst (λ (x : ℕ). x ∉ remove s k) e (remove-out s k)))
+
+-- a set that is not empty: its lowest member, and the members of the rest
+pub members-lowest : (s w : ℕ) → lowest w s < w → members w s ≡ lowest w s ∷ members w (remove s (lowest w s))
+members-lowest s w h = members-first w h (lowest-in w s h) (λ j l. below-lowest w s l)
