@@ -5,3 +5,4 @@ pub mod Bits
 pub mod Sets
 pub mod Ranks
 pub mod Members
+pub mod Theorems

@@ -1,2 +1,3 @@
 -- The definitions of `sets`. Assumes nothing.
 pub mod Sets
+pub mod Statements

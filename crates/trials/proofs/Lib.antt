@@ -1,0 +1,2 @@
+-- The reader's index, checked. Assumes nothing.
+pub mod Index
