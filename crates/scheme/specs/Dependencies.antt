@@ -1,7 +1,7 @@
 -- Dependencies and the closure of an attribute set: "dependency: left determines right".
 -- In order: dependencies, closed sets, the closure computed.
 -- Assumes nothing.
-use mathlib.Core.Bool.{Bool, true, false}
+use mathlib.Core.Bool.{true, false}
 use mathlib.Core.List.{List, [], _∷_, List·Memᴰ}
 use Prim.Native.Nat.{ℕ, zero, suc, _^_}
 use lib.Dec.{eqb}

@@ -1,6 +1,6 @@
 -- "Growing maximal objects": "From each object as start: hold it; while some object not held has attributes which are
--- determined, by closure under the dependencies, by those it shares with the attributes held, hold it too." The other side
--- is not used. The objects' sets are a list, object k at place k; a set of objects is a mask.
+-- determined, by closure under the dependencies, by those it shares with the attributes held, hold it too." The other
+-- side is not used. The objects' sets are a list, object k at place k; a set of objects is a mask.
 -- In order: the attributes held, the rule, grown sets, growing computed.
 -- Assumes nothing.
 use mathlib.Core.Path.{_≡_}

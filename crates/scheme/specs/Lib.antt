@@ -3,3 +3,4 @@ pub mod Dependencies
 pub mod Growing
 pub mod MaximalObjects
 pub mod OfScheme
+pub mod Statements

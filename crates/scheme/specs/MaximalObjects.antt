@@ -1,6 +1,6 @@
--- The list of maximal objects: "Sets properly inside another, and repeats, go. Order is by lowest start. Then kind 6 removes
--- an equal set (named twice, it is removed once and is no fault); kind 5 adds its set at the end unless already there. Every
--- one left must be acyclic".
+-- The list of maximal objects: "Sets properly inside another, and repeats, go. Order is by lowest start. Then kind 6
+-- removes an equal set (named twice, it is removed once and is no fault); kind 5 adds its set at the end unless already
+-- there. Every one left must be acyclic".
 -- In order: the computed list, removals, declarations, the two faults.
 -- Assumes nothing.
 use mathlib.Core.Bool.{Bool, true, false, not, _||_}
@@ -14,9 +14,13 @@ use Rattle.scheme.specs.Growing.{familyOf, grown}
 
 -- ---- the computed list
 
--- the sets grown from the declared objects, starts ascending; those properly inside another and repeats gone
+-- the sets grown from the declared objects, starts ascending
+abbrev pub allGrown : List Dependency → List ℕ → ℕ → List ℕ
+allGrown D sets objects = map (grown D sets objects) (members 32 objects)
+
+-- those properly inside another and repeats gone
 unfoldable pub computed : List Dependency → List ℕ → ℕ → List ℕ
-computed D sets objects = maximal (map (grown D sets objects) (members 32 objects))
+computed D sets objects = maximal (allGrown D sets objects)
 
 -- ---- removals
 

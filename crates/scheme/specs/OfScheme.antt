@@ -1,12 +1,17 @@
 -- What a scheme by value says: its lists are the arrays up to their counts.
+-- In order: dependencies, declared and removed ones, the lists and faults of a scheme, what the code returns.
 -- Assumes nothing.
+use mathlib.Core.Path.{_≡_}
+use mathlib.Core.Bool.{Bool}
 use mathlib.Core.List.{List, [], _∷_}
-use Prim.Native.Nat.{ℕ, zero, suc}
-use lib.ListN.{getD, take}
+use Prim.Native.Nat.{ℕ, zero, suc, _+_, _≤_}
+use lib.ListN.{length, take}
+use Rattle.reduction.specs.Packed.{padded}
 use Rattle.scheme.specs.declared.Scheme.{Scheme}
+use Rattle.scheme.specs.declared.ObjectList.{ObjectList}
+use Rattle.scheme.specs.declared.MaximalList.{MaximalList}
 use Rattle.scheme.specs.Dependencies.{Dependency}
 use Rattle.scheme.specs.MaximalObjects.{computed, maximalObjects, someUnmatched, someCyclic}
-use mathlib.Core.Bool.{Bool}
 
 -- the first n dependencies of two arrays of sides
 unfoldable pub pairs : ℕ → List ℕ → List ℕ → List Dependency
@@ -37,3 +42,31 @@ unmatchedOf s = someUnmatched (removedOf s) (computedOf s)
 
 unfoldable pub cyclicOf : Scheme → Bool
 cyclicOf s = someCyclic (s .sets) (maximalOf s)
+
+-- ---- as the code has them
+
+-- the first n places of two arrays of sides are there
+pub record Sides (n : ℕ) (left right : List ℕ) : Type 0 where
+  pub leftThere : n ≤ length left
+  pub rightThere : n ≤ length right
+
+-- a list of at most 40 sets in an array, with 0 behind it, beside its count; and the list again
+unfoldable pub listed : List ℕ → ObjectList
+listed l = record { sets = padded 40 l; count = length l }
+
+abbrev pub setsOf : ObjectList → List ℕ
+setsOf p = take (p .count) (p .sets)
+
+-- a list with room for n sets more
+pub record HasRoom (p : ObjectList) (n : ℕ) : Type 0 where
+  pub whole : p ≡ listed (setsOf p)
+  pub room : p .count + n ≤ 40
+
+-- the maximal objects with both faults
+unfoldable pub maximalListOf : Scheme → MaximalList
+maximalListOf s = record {
+  sets = padded 40 (maximalOf s);
+  count = length (maximalOf s);
+  unmatched = unmatchedOf s;
+  cyclic = cyclicOf s;
+}

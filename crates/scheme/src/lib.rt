@@ -1,8 +1,23 @@
-// The scheme of a book, by value, and its maximal objects.
+// The scheme of a book, by value, and its maximal objects. Functions over slices do the work: the first n places of
+// left and right are the dependencies, place k of sets is the set of object k. The last two functions take a whole
+// scheme.
+ghost use mathlib.Core.Path.{_≡_};
+ghost use mathlib.Core.Bool.{not};
+ghost use Prim.Native.Nat.{_≤_, _<_, min};
+ghost use lib.ListN.{length, take};
+ghost use Rattle.sets.specs.Sets.{within, _∩_};
+ghost use Rattle.reduction.specs.Kept.{acyclic};
+ghost use Rattle.reduction.specs.Packed.{packed};
+ghost use Rattle.scheme.specs.Dependencies.{pass, closure};
+ghost use Rattle.scheme.specs.Growing.{familyOf, attributesOf, round, grown};
+ghost use Rattle.scheme.specs.MaximalObjects.{allGrown, computed, isOne, removing, adding, someUnmatched};
+ghost use Rattle.scheme.specs.MaximalObjects.{someCyclic};
+ghost use Rattle.scheme.specs.OfScheme.{pairs, Sides, listed, setsOf, HasRoom, computedOf, maximalListOf};
+use reduction::KeptSets;
 
-// What a book declares: the value kind of each attribute, the set of each object, the dependencies, the declared maximal
-// objects (kind 5) and those to be removed (kind 6), each array beside its count or the set of what is declared. Places that
-// nothing was declared for are 0.
+// What a book declares: the value kind of each attribute, the set of each object, the dependencies, the declared
+// maximal objects (kind 5) and those to be removed (kind 6), each array beside its count or the set of what is
+// declared. Places that nothing was declared for are 0.
 pub struct Scheme {
     pub kinds: [u8; 32],
     pub attributes: u32,
@@ -15,4 +30,310 @@ pub struct Scheme {
     pub declarations: usize,
     pub removed: [u32; 8],
     pub removals: usize,
+}
+
+// The first n of a list, or the whole list where it has fewer.
+fn first<'a>(list: &'a [u32], n: usize) -> &'a [u32]
+    ensures { λ r. ⌜ now r ≡ take n (now (list .entry)) ⌝ }
+{
+    if n < list.len() { &list[..n] } else { list }
+}
+
+// One pass: each dependency in turn whose left side is there adds its right side.
+fn pass<'a>(left: &'a [u32], right: &'a [u32], n: usize, attributes: u32) -> u32
+    requires { ⌜ Sides n (now left) (now right) ⌝ }
+    ensures { λ r. ⌜ r ≡ pass (pairs n (now (left .entry)) (now (right .entry))) attributes ⌝ }
+{
+    let mut all = attributes;
+    let mut i: usize = 0;
+    while i < n {
+        if sets::within(left[i], all) {
+            all = sets::union(all, right[i]);
+        }
+        i += 1;
+    }
+    all
+}
+
+// The attributes that are determined by some: passes until nothing is added.
+pub fn closure<'a>(left: &'a [u32], right: &'a [u32], n: usize, attributes: u32) -> u32
+    requires { ⌜ Sides n (now left) (now right) ⌝ }
+    ensures { λ r. ⌜ r ≡ closure (pairs n (now (left .entry)) (now (right .entry))) attributes ⌝ }
+{
+    let mut all = attributes;
+    let mut next = pass(left, right, n, all);
+    while next != all {
+        all = next;
+        next = pass(left, right, n, all);
+    }
+    all
+}
+
+// The sets of some objects, ascending: the family of a maximal object.
+pub fn family_of(sets: &[u32], objects: u32) -> KeptSets
+    requires { ⌜ 32 ≤ length (now sets) ⌝ }
+    ensures { λ r. ⌜ r ≡ packed (familyOf (now (sets .entry)) objects) ⌝ }
+{
+    let mut out = [0u32; 32];
+    let mut count: usize = 0;
+    let mut k: u32 = 0;
+    while k < 32 {
+        if sets::has(objects, k) {
+            out[count] = sets[k as usize];
+            count += 1;
+        }
+        k += 1;
+    }
+    KeptSets { sets: out, count }
+}
+
+// The attributes of some objects.
+pub fn attributes_of(sets: &[u32], objects: u32) -> u32
+    requires { ⌜ 32 ≤ length (now sets) ⌝ }
+    ensures { λ r. ⌜ r ≡ attributesOf (now (sets .entry)) objects ⌝ }
+{
+    let mut all: u32 = 0;
+    let mut k: u32 = 0;
+    while k < 32 {
+        if sets::has(objects, k) {
+            all = sets::union(all, sets[k as usize]);
+        }
+        k += 1;
+    }
+    all
+}
+
+// Whether an object with set s has attributes which are determined by those it shares with the attributes held.
+fn is_determined<'a>(left: &'a [u32], right: &'a [u32], n: usize, s: u32, attributes: u32) -> bool
+    requires { ⌜ Sides n (now left) (now right) ⌝ }
+    ensures { λ r. ⌜ r ≡ within s (closure (pairs n (now (left .entry)) (now (right .entry))) (s ∩ attributes)) ⌝ }
+{
+    let shared = sets::intersection(s, attributes);
+    sets::within(s, closure(left, right, n, shared))
+}
+
+// One round: the objects that are held or can be held. The attributes held are found once.
+fn round<'a>(
+    left: &'a [u32],
+    right: &'a [u32],
+    n: usize,
+    sets: &'a [u32],
+    objects: u32,
+    held: u32,
+) -> u32
+    requires { ⌜ (Sides n (now left) (now right)) × (32 ≤ length (now sets)) ⌝ }
+    ensures { λ r. ⌜ r ≡ round (pairs n (now (left .entry)) (now (right .entry))) (now (sets .entry)) objects held ⌝ }
+{
+    let attributes = attributes_of(sets, held);
+    let mut next: u32 = 0;
+    let mut k: u32 = 0;
+    while k < 32 {
+        if sets::has(held, k) {
+            next = sets::insert(next, k);
+        } else if sets::has(objects, k) {
+            if is_determined(left, right, n, sets[k as usize], attributes) {
+                next = sets::insert(next, k);
+            }
+        }
+        k += 1;
+    }
+    next
+}
+
+// The set grown from a start: rounds until no object joins.
+pub fn grow<'a>(
+    left: &'a [u32],
+    right: &'a [u32],
+    n: usize,
+    sets: &'a [u32],
+    objects: u32,
+    start: u32,
+) -> u32
+    requires { ⌜ (Sides n (now left) (now right)) × (32 ≤ length (now sets)) × (start < 32) ⌝ }
+    ensures { λ r. ⌜ r ≡ grown (pairs n (now (left .entry)) (now (right .entry))) (now (sets .entry)) objects start ⌝ }
+{
+    let mut held = sets::single(start);
+    let mut next = round(left, right, n, sets, objects, held);
+    while next != held {
+        held = next;
+        next = round(left, right, n, sets, objects, held);
+    }
+    held
+}
+
+// The sets grown from each object, starts ascending.
+fn grown_sets<'a>(
+    left: &'a [u32],
+    right: &'a [u32],
+    n: usize,
+    sets: &'a [u32],
+    objects: u32,
+) -> KeptSets
+    requires { ⌜ (Sides n (now left) (now right)) × (32 ≤ length (now sets)) ⌝ }
+    ensures { λ r. ⌜ r ≡ packed (allGrown (pairs n (now (left .entry)) (now (right .entry))) (now (sets .entry)) objects) ⌝ }
+{
+    let mut out = [0u32; 32];
+    let mut count: usize = 0;
+    let mut k: u32 = 0;
+    while k < 32 {
+        if sets::has(objects, k) {
+            out[count] = grow(left, right, n, sets, objects, k);
+            count += 1;
+        }
+        k += 1;
+    }
+    KeptSets { sets: out, count }
+}
+
+// The grown sets without those properly inside another and without repeats.
+fn computed_sets<'a>(
+    left: &'a [u32],
+    right: &'a [u32],
+    n: usize,
+    sets: &'a [u32],
+    objects: u32,
+) -> KeptSets
+    requires { ⌜ (Sides n (now left) (now right)) × (32 ≤ length (now sets)) ⌝ }
+    ensures { λ r. ⌜ r ≡ packed (computed (pairs n (now (left .entry)) (now (right .entry))) (now (sets .entry)) objects) ⌝ }
+{
+    let all = grown_sets(left, right, n, sets, objects);
+    reduction::maximal_sets(first(&all.sets, all.count), 0xffff_ffff)
+}
+
+// Whether s is one of the list.
+fn is_one(list: &[u32], s: u32) -> bool
+    ensures { λ r. ⌜ r ≡ isOne s (now (list .entry)) ⌝ }
+{
+    let mut i: usize = 0;
+    while i < list.len() {
+        if list[i] == s {
+            return true;
+        }
+        i += 1;
+    }
+    false
+}
+
+// Whether some named set is none of the list.
+fn some_unmatched<'a>(named: &'a [u32], list: &'a [u32]) -> bool
+    ensures { λ r. ⌜ r ≡ someUnmatched (now (named .entry)) (now (list .entry)) ⌝ }
+{
+    let mut i: usize = 0;
+    while i < named.len() {
+        if !is_one(list, named[i]) {
+            return true;
+        }
+        i += 1;
+    }
+    false
+}
+
+// Whether the objects of m make a family with a cycle.
+fn is_cyclic(sets: &[u32], m: u32) -> bool
+    requires { ⌜ 32 ≤ length (now sets) ⌝ }
+    ensures { λ r. ⌜ r ≡ not (acyclic (familyOf (now (sets .entry)) m)) ⌝ }
+{
+    let family = family_of(sets, m);
+    !reduction::is_acyclic(first(&family.sets, family.count))
+}
+
+// Whether some one of the list has a cycle.
+fn some_cyclic<'a>(sets: &'a [u32], list: &'a [u32]) -> bool
+    requires { ⌜ 32 ≤ length (now sets) ⌝ }
+    ensures { λ r. ⌜ r ≡ someCyclic (now (sets .entry)) (now (list .entry)) ⌝ }
+{
+    let mut i: usize = 0;
+    while i < list.len() {
+        if is_cyclic(sets, list[i]) {
+            return true;
+        }
+        i += 1;
+    }
+    false
+}
+
+// A list of at most 40 sets; the places behind them are 0.
+pub struct ObjectList {
+    pub sets: [u32; 40],
+    pub count: usize,
+}
+
+// The list without the sets that are named.
+fn without_removed<'a>(list: &'a [u32], removed: &'a [u32]) -> ObjectList
+    requires { ⌜ length (now list) ≤ 32 ⌝ }
+    ensures { λ r. ⌜ r ≡ listed (removing (now (list .entry)) (now (removed .entry))) ⌝ }
+{
+    let mut out = [0u32; 40];
+    let mut count: usize = 0;
+    let mut i: usize = 0;
+    while i < list.len() {
+        if !is_one(removed, list[i]) {
+            out[count] = list[i];
+            count += 1;
+        }
+        i += 1;
+    }
+    ObjectList { sets: out, count }
+}
+
+// The list with each declared set at its end unless already there.
+fn with_declared(list: ObjectList, declared: &[u32]) -> ObjectList
+    requires { ⌜ HasRoom list (length (now declared)) ⌝ }
+    ensures { λ r. ⌜ r ≡ listed (adding (setsOf list) (now (declared .entry))) ⌝ }
+{
+    let mut out = list.sets;
+    let mut count = list.count;
+    let mut i: usize = 0;
+    while i < declared.len() {
+        if !is_one(&out[..count], declared[i]) {
+            out[count] = declared[i];
+            count += 1;
+        }
+        i += 1;
+    }
+    ObjectList { sets: out, count }
+}
+
+// The smaller one: a count, or the length of its array where the count is over it.
+fn at_most(count: usize, length: usize) -> usize
+    ensures { λ r. ⌜ r ≡ min count length ⌝ }
+{
+    if count < length { count } else { length }
+}
+
+// The computed maximal objects of a scheme.
+pub fn computed(s: Scheme) -> KeptSets
+    ensures { λ r. ⌜ r ≡ packed (computedOf s) ⌝ }
+{
+    let n = at_most(s.dependencies, 64);
+    computed_sets(&s.left, &s.right, n, &s.sets, s.objects)
+}
+
+// The maximal objects of a scheme, at most 40, with the two faults: a set to be removed that equals no computed one,
+// and a maximal object with a cycle. The places behind the sets are 0.
+pub struct MaximalList {
+    pub sets: [u32; 40],
+    pub count: usize,
+    pub unmatched: bool,
+    pub cyclic: bool,
+}
+
+// The maximal objects and the faults of a scheme. All sets are grown once.
+pub fn maximal_objects(s: Scheme) -> MaximalList
+    ensures { λ r. ⌜ r ≡ maximalListOf s ⌝ }
+{
+    let found = computed(s);
+    let list = first(&found.sets, found.count);
+    let removed = first(&s.removed, s.removals);
+    let unmatched = some_unmatched(removed, list);
+    let rest = without_removed(list, removed);
+    let all = with_declared(rest, first(&s.declared, s.declarations));
+    let cyclic = some_cyclic(&s.sets, first(&all.sets, all.count));
+    let sets = all.sets;
+    MaximalList {
+        sets,
+        count: all.count,
+        unmatched,
+        cyclic,
+    }
 }

@@ -1,0 +1,165 @@
+-- What the code finds of a scheme, put together from what its callees give.
+-- In order: counts over an array's length, the computed list, the list of maximal objects.
+-- Assumes nothing.
+use mathlib.Core.Path.{_≡_, refl, sym, ap, ap₂, _∙_, subst}
+use mathlib.Core.Bool.{Bool}
+use mathlib.Core.Logic.{⊎-elim}
+use mathlib.Core.List.{List, [], _∷_, List·Memᴰ, List·Memᴰ·head, List·Memᴰ·tail}
+use Prim.Native.Nat.{ℕ, zero, suc, _-_, _^_, _≤_, _<_, min}
+use native.Mathlib.Nat.{not-suc-le-zero, le-of-suc-le-suc, mod-eq-of-lt}
+use native.Mathlib.Omega.{arith}
+use lib.Bits.{and-mask}
+use lib.ListN.{length, take, length-take}
+use Rattle.sets.specs.Sets.{_∩_, members}
+use Rattle.sets.proofs.Numbers.{lt-or-le}
+use Rattle.sets.proofs.Members.{members-only}
+use Rattle.reduction.specs.Steps.{Family}
+use Rattle.reduction.specs.Kept.{cutTo, maximal}
+use Rattle.reduction.specs.Packed.{padded, packed}
+use Rattle.reduction.specs.declared.KeptSets.{KeptSets}
+use Rattle.scheme.specs.declared.Scheme.{Scheme}
+use Rattle.scheme.specs.declared.ObjectList.{ObjectList}
+use Rattle.scheme.specs.declared.MaximalList.{MaximalList}
+use Rattle.scheme.specs.Dependencies.{Dependency}
+use Rattle.scheme.specs.Growing.{grown}
+use Rattle.scheme.specs.MaximalObjects.{allGrown, computed, removing, adding, maximalObjects, someUnmatched}
+use Rattle.scheme.specs.MaximalObjects.{someCyclic}
+use Rattle.scheme.specs.OfScheme.{pairs, listed, setsOf, HasRoom, declaredOf, removedOf, computedOf, maximalOf}
+use Rattle.scheme.specs.OfScheme.{unmatchedOf, cyclicOf, maximalListOf}
+use Rattle.scheme.proofs.Growing.{of-map, grown-lt}
+use Rattle.scheme.proofs.MaximalObjects.{length-computed, length-removing, length-adding}
+use Rattle.scheme.proofs.Packing.{Listing, packed-listing, listing-take, listed-listing}
+use Rattle.scheme.proofs.Loops.{length-given}
+
+-- ---- counts over an array's length
+
+-- a count past the length adds no dependency
+pairs-past : (m : ℕ) (ls rs : List ℕ) → length ls ≤ m → pairs (length ls) ls rs ≡ pairs m ls rs
+unfolding pairs
+pairs-past zero [] rs h = refl
+pairs-past (suc m) [] rs h = refl
+pairs-past zero (l ∷ ls) rs h = absurd (not-suc-le-zero h)
+pairs-past (suc m) (l ∷ ls) [] h = refl
+pairs-past (suc m) (l ∷ ls) (r ∷ rs) h =
+    ap (λ (D : List Dependency). record { left = l; right = r } ∷ D) (pairs-past m ls rs (le-of-suc-le-suc h))
+
+pairs-at-most : (m n : ℕ) (ls rs : List ℕ) → length ls ≡ n → pairs (min m n) ls rs ≡ pairs m ls rs
+pairs-at-most m n ls rs e = ⊎-elim inside past (lt-or-le m n)
+  where
+    inside : m < n → pairs (min m n) ls rs ≡ pairs m ls rs
+    inside l =
+        let q : min m n ≡ m = omega arith in
+        ap (λ (k : ℕ). pairs k ls rs) q
+
+    past : n ≤ m → pairs (min m n) ls rs ≡ pairs m ls rs
+    past g =
+        let q : min m n ≡ length ls = omega arith in
+        ap (λ (k : ℕ). pairs k ls rs) q ∙ pairs-past m ls rs (omega arith)
+
+-- ---- the computed list
+
+cut-to-all : (F : Family) → ((s : ℕ) → List·Memᴰ s F → s < 2 ^ 32) → cutTo (2 ^ 32 - 1) F ≡ F
+unfolding _∩_
+cut-to-all [] h = refl
+cut-to-all (s ∷ F) h =
+    ap₂ (λ (x : ℕ) (l : Family). x ∷ l) (and-mask s 32 ∙ mod-eq-of-lt (h s (List·Memᴰ·head refl)))
+    (cut-to-all F (λ t m. h t (List·Memᴰ·tail m)))
+
+module _ (D : List Dependency) (sets : List ℕ) (objects : ℕ) where
+  all-grown-lt : (s : ℕ) → List·Memᴰ s (allGrown D sets objects) → s < 2 ^ 32
+  all-grown-lt s m =
+      let i = of-map (grown D sets objects) (members 32 objects) m in
+      subst (λ (x : ℕ). x < 2 ^ 32) (sym (i .gives)) (grown-lt D sets objects (members-only 32 objects (i .there) .0))
+
+  pub grown-listing : {p : KeptSets} → p ≡ packed (allGrown D sets objects)
+      → Listing 32 (allGrown D sets objects) (p .count) (p .sets)
+  grown-listing e = packed-listing e (length-given (grown D sets objects) objects 32)
+
+  pub computed-by : (p : KeptSets) (l : List ℕ) → p ≡ packed (allGrown D sets objects) → l ≡ take (p .count) (p .sets)
+      → packed (maximal (cutTo (2 ^ 32 - 1) l)) ≡ packed (computed D sets objects)
+  unfolding computed
+  computed-by p l e q =
+      ap (λ (F : Family). packed (maximal F))
+      (ap (cutTo (2 ^ 32 - 1)) (q ∙ listing-take (grown-listing e)) ∙ cut-to-all (allGrown D sets objects) all-grown-lt)
+
+module _ (s : Scheme) where
+  pub computed-of : {r : KeptSets} {n : ℕ} → length (s .left) ≡ 64 → n ≡ min (s .dependencies) 64
+      → r ≡ packed (computed (pairs n (s .left) (s .right)) (s .sets) (s .objects)) → r ≡ packed (computedOf s)
+  unfolding computedOf
+  computed-of l e q =
+      q ∙ ap (λ (D : List Dependency). packed (computed D (s .sets) (s .objects)))
+      (ap (λ (k : ℕ). pairs k (s .left) (s .right)) e ∙ pairs-at-most (s .dependencies) 64 (s .left) (s .right) l)
+
+  -- ---- the list of maximal objects
+
+  length-found : length (computedOf s) ≤ 32
+  unfolding computedOf
+  length-found = length-computed (pairs (s .dependencies) (s .left) (s .right)) (s .sets) (s .objects)
+
+  -- the computed list, read back out of its array
+  pub found-list : {p : KeptSets} {l : List ℕ} → p ≡ packed (computedOf s) → l ≡ take (p .count) (p .sets)
+      → l ≡ computedOf s
+  found-list e q = q ∙ listing-take (packed-listing e length-found)
+
+  pub found-few : {l : List ℕ} → l ≡ computedOf s → length l ≤ 32
+  found-few e = subst (λ (x : List ℕ). length x ≤ 32) (sym e) length-found
+
+  abbrev remaining : List ℕ
+  remaining = removing (computedOf s) (removedOf s)
+
+  rest-few : length remaining ≤ 32
+  rest-few = omega (arith, length-removing (removedOf s) (computedOf s), length-found)
+
+  pub rest-of : {p : ObjectList} {l r : List ℕ} → l ≡ computedOf s → r ≡ removedOf s → p ≡ listed (removing l r)
+      → p ≡ listed remaining
+  rest-of e q t = t ∙ ap₂ (λ (x y : List ℕ). listed (removing x y)) e q
+
+  declared-few : {d : List ℕ} → length (s .declared) ≡ 8 → d ≡ declaredOf s → length d ≤ 8
+  declared-few {d} l e = omega (arith, ap length e, length-take (s .declarations) (s .declared))
+
+  rest-list : {p : ObjectList} → p ≡ listed remaining → setsOf p ≡ remaining
+  rest-list e = listing-take (listed-listing e (omega (arith, rest-few)))
+
+  pub rest-room : {p : ObjectList} {d : List ℕ} → p ≡ listed remaining → length (s .declared) ≡ 8 → d ≡ declaredOf s
+      → HasRoom p (length d)
+  rest-room e l q = record {
+    whole = e ∙ ap listed (sym (rest-list e));
+    room = omega (arith, listed-listing e (omega (arith, rest-few)) .counted, rest-few, declared-few l q);
+  }
+
+  pub all-of : {p a : ObjectList} {d : List ℕ} → p ≡ listed remaining → d ≡ declaredOf s
+      → a ≡ listed (adding (setsOf p) d) → a ≡ listed (maximalOf s)
+  unfolding maximalOf maximalObjects computedOf
+  all-of e q t = t ∙ ap₂ (λ (x y : List ℕ). listed (adding x y)) (rest-list e) q
+
+  -- at most 40 of them, read back out of their array
+  pub all-few : length (s .declared) ≡ 8 → length (maximalOf s) ≤ 40
+  unfolding maximalOf maximalObjects computedOf
+  all-few l = omega (arith, length-adding remaining (declaredOf s), rest-few, declared-few l refl)
+
+  pub all-list : {a : ObjectList} {l : List ℕ} → a ≡ listed (maximalOf s) → length (s .declared) ≡ 8
+      → l ≡ take (a .count) (a .sets) → l ≡ maximalOf s
+  all-list e h q = q ∙ listing-take (listed-listing e (all-few h))
+
+  -- the two faults, and all of it
+  pub unmatched-of : {u : Bool} {l r : List ℕ} → l ≡ computedOf s → r ≡ removedOf s → u ≡ someUnmatched r l
+      → u ≡ unmatchedOf s
+  unfolding unmatchedOf
+  unmatched-of e q t = t ∙ ap₂ (λ (x y : List ℕ). someUnmatched x y) q e
+
+  pub cyclic-of : {y : Bool} {l : List ℕ} → l ≡ maximalOf s → y ≡ someCyclic (s .sets) l → y ≡ cyclicOf s
+  unfolding cyclicOf
+  cyclic-of e t = t ∙ ap (someCyclic (s .sets)) e
+
+  pub returned : {a : ObjectList} {u y : Bool} → a ≡ listed (maximalOf s) → u ≡ unmatchedOf s → y ≡ cyclicOf s
+      → _≡_ {A = MaximalList} (record { sets = a .sets; count = a .count; unmatched = u; cyclic = y }) (maximalListOf s)
+  unfolding maximalListOf listed
+  returned {u = u} {y} e p q =
+      ap {B = MaximalList}
+      (λ (x : ObjectList). record { sets = x .sets; count = x .count; unmatched = u; cyclic = y }) e
+      ∙ ap₂ {C = MaximalList} (λ (b c : Bool). record {
+        sets = padded 40 (maximalOf s);
+        count = length (maximalOf s);
+        unmatched = b;
+        cyclic = c;
+      }) p q

@@ -1,0 +1,108 @@
+-- What is proved of closures, grown sets and the list of maximal objects. The proofs are in `proofs/Theorems.antt`.
+-- In order: what a scheme has, growing in every order, the computed list, removals and declarations, the two faults,
+-- the list of maximal objects.
+-- Assumes nothing.
+use mathlib.Core.Path.{_≡_}
+use mathlib.Core.Bool.{true, false}
+use mathlib.Core.List.{List, [], _∷_, _++_, List·Memᴰ}
+use Prim.Native.Nat.{ℕ, _+_, _^_, _≤_, _<_}
+use lib.ListN.{length}
+use Rattle.sets.specs.Sets.{_∈_, _⊆_, single}
+use Rattle.reduction.specs.Steps.{at, NoneTwice}
+use Rattle.reduction.specs.Kept.{acyclic}
+use Rattle.reduction.specs.Statements.{OfAttributes, LiesIn}
+use Rattle.scheme.specs.Dependencies.{Dependency}
+use Rattle.scheme.specs.Growing.{familyOf, Holding, grown}
+use Rattle.scheme.specs.MaximalObjects.{computed, removing, adding, maximalObjects, someUnmatched, someCyclic}
+
+-- ---- what a scheme has: attributes and objects 0 to 31
+
+-- what the dependencies determine are sets of attributes 0 to 31
+pub record DeterminesAttributes (D : List Dependency) : Type 0 where
+  pub bounded : (d : Dependency) → List·Memᴰ d D → d .right < 2 ^ 32
+
+pub record Bounded (D : List Dependency) (sets : List ℕ) (objects : ℕ) : Type 0 where
+  pub dependencies : DeterminesAttributes D
+  pub attributes : OfAttributes sets
+  pub declared : objects < 2 ^ 32
+
+-- ---- growing in every order
+
+-- whichever object is held first of those that the rule allows, the same set is grown; and there is a way to grow it
+pub record GrownInEveryOrder (D : List Dependency) (sets : List ℕ) (objects start : ℕ) : Type 0 where
+  pub every : (G : ℕ) → Holding D sets objects (single start) G → G ≡ grown D sets objects start
+  pub some : Holding D sets objects (single start) (grown D sets objects start)
+
+-- ---- the computed list
+
+-- k is the lowest object from which M is grown
+pub record LowestStart (D : List Dependency) (sets : List ℕ) (objects M k : ℕ) : Type 0 where
+  pub declared : k ∈ objects
+  pub grows : grown D sets objects k ≡ M
+  pub lowest : (j : ℕ) → j ∈ objects → grown D sets objects j ≡ M → k ≤ j
+
+-- "Sets properly inside another, and repeats, go. Order is by lowest start."
+pub record ComputedList (D : List Dependency) (sets : List ℕ) (objects : ℕ) : Type 0 where
+  pub hasStart : (M : ℕ) → List·Memᴰ M (computed D sets objects) → (k : ℕ) × LowestStart D sets objects M k
+  pub inNoOther : (M k : ℕ) → List·Memᴰ M (computed D sets objects) → k ∈ objects → M ⊆ grown D sets objects k
+      → M ≡ grown D sets objects k
+  pub around : (k : ℕ) → k ∈ objects → LiesIn (grown D sets objects k) (computed D sets objects)
+  pub noneTwice : NoneTwice (computed D sets objects)
+  pub byLowestStart : (i j a b : ℕ) → i < j → j < length (computed D sets objects)
+      → LowestStart D sets objects (at (computed D sets objects) i) a
+      → LowestStart D sets objects (at (computed D sets objects) j) b → a < b
+  pub atMost : length (computed D sets objects) ≤ 32
+
+-- ---- removals and declarations
+
+-- the first list is the second with some left out
+pub data LeavesOut : List ℕ → List ℕ → Type 0 where
+  ended : LeavesOut [] []
+  kept : {l m : List ℕ} (s : ℕ) → LeavesOut l m → LeavesOut (s ∷ l) (s ∷ m)
+  out : {l m : List ℕ} (s : ℕ) → LeavesOut l m → LeavesOut l (s ∷ m)
+
+-- "kind 6 removes an equal set (named twice, it is removed once and is no fault)"
+pub record Removal (l named : List ℕ) : Type 0 where
+  pub stays : (s : ℕ) → List·Memᴰ s l → (List·Memᴰ s named → ⊥) → List·Memᴰ s (removing l named)
+  pub wasThere : (s : ℕ) → List·Memᴰ s (removing l named) → List·Memᴰ s l
+  pub notNamed : (s : ℕ) → List·Memᴰ s (removing l named) → List·Memᴰ s named → ⊥
+  pub ordered : LeavesOut (removing l named) l
+  pub noneTwice : NoneTwice l → NoneTwice (removing l named)
+
+-- "kind 5 adds its set at the end unless already there"
+pub record Addition (l declared : List ℕ) : Type 0 where
+  pub ends : List ℕ
+  pub atTheEnd : adding l declared ≡ l ++ ends
+  pub ordered : LeavesOut ends declared
+  pub there : (s : ℕ) → List·Memᴰ s declared → List·Memᴰ s (adding l declared)
+  pub noneTwice : NoneTwice l → NoneTwice (adding l declared)
+
+-- ---- the two faults
+
+-- "a kind 6 set equal to no computed one"
+pub record UnmatchedFault (named l : List ℕ) : Type 0 where
+  pub yes : (s : ℕ) → List·Memᴰ s named → (List·Memᴰ s l → ⊥) → someUnmatched named l ≡ true
+  pub yesBack : someUnmatched named l ≡ true → (s : ℕ) × List·Memᴰ s named × (List·Memᴰ s l → ⊥)
+  pub no : ((s : ℕ) → List·Memᴰ s named → List·Memᴰ s l) → someUnmatched named l ≡ false
+  pub noBack : someUnmatched named l ≡ false → (s : ℕ) → List·Memᴰ s named → List·Memᴰ s l
+
+-- "a remaining maximal object with a cycle"
+pub record CyclicFault (sets l : List ℕ) : Type 0 where
+  pub yes : (M : ℕ) → List·Memᴰ M l → acyclic (familyOf sets M) ≡ false → someCyclic sets l ≡ true
+  pub yesBack : someCyclic sets l ≡ true → (M : ℕ) × List·Memᴰ M l × (acyclic (familyOf sets M) ≡ false)
+  pub no : ((M : ℕ) → List·Memᴰ M l → acyclic (familyOf sets M) ≡ true) → someCyclic sets l ≡ false
+  pub noBack : someCyclic sets l ≡ false → (M : ℕ) → List·Memᴰ M l → acyclic (familyOf sets M) ≡ true
+
+-- ---- the list of maximal objects
+
+-- M has an object, and its objects are declared
+pub record SomeObjects (objects M : ℕ) : Type 0 where
+  pub filled : (k : ℕ) × (k ∈ M)
+  pub inside : M ⊆ objects
+
+pub record MaximalObjectList (D : List Dependency) (sets : List ℕ) (objects : ℕ)
+    (declared removed : List ℕ) : Type 0 where
+  pub someObjects : ((M : ℕ) → List·Memᴰ M declared → SomeObjects objects M)
+      → (M : ℕ) → List·Memᴰ M (maximalObjects D sets objects declared removed) → SomeObjects objects M
+  pub noneTwice : NoneTwice (maximalObjects D sets objects declared removed)
+  pub atMost : length (maximalObjects D sets objects declared removed) ≤ 32 + length declared
