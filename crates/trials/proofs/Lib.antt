@@ -1,2 +1,3 @@
--- The reader's index, checked. Assumes nothing.
+-- The starred trials, and the index of all statements. Assumes nothing.
+pub mod Starred
 pub mod Index

@@ -1,9 +1,16 @@
 // The trials that a program checks: what it writes is held to the file stdout, which is written from the paper.
+mod books_trial;
 mod text;
 mod values_trial;
+
+use libc::STDIN_FILENO;
 
 fn main() {
     values_trial::operators();
     values_trial::ranges();
     values_trial::orders();
+    let mut input = io::large_buffer();
+    let n = io::read_full(STDIN_FILENO, &mut input);
+    books_trial::books(&input[..n]);
+    books_trial::full();
 }

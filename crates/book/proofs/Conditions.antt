@@ -1,0 +1,251 @@
+-- The tests of the checks say what the conditions say, kind by kind; so the fault of a record is the number of the
+-- first condition that holds.
+-- In order: tests and conditions, those of numbers and sets, those of a row's cells, each kind, the first, its range.
+-- Assumes nothing.
+use mathlib.Core.Path.{_≡_, refl, sym, ap, _∙_, subst}
+use mathlib.Core.Bool.{Bool, true, false, not, _&&_, _||_}
+use mathlib.Core.Logic.{_⊎_, inl, inr, ⊎-elim, _↔_}
+use mathlib.Core.List.{List, [], _∷_}
+use Prim.Native.Nat.{ℕ, zero, suc, _+_, _-_, _≤_, _<_}
+use native.Mathlib.Nat.{le-refl, le-of-suc-le-suc, eq-or-lt-of-le}
+use native.Mathlib.Omega.{arith}
+use borrow.Author.Tests.{ltb-true, ltb-false, leb-true, leb-false, eqb-true, eqb-false, not-true, not-false}
+use lib.Dec.{eqb, ltb, leb}
+use lib.ListN.{getD, drop}
+use lib.Seq.{getD-drop}
+use Rattle.sets.specs.Sets.{_∈_, _∉_, _⊆_, has, within, isEmpty, count}
+use Rattle.sets.proofs.Tests.{yes-no, yes-and, no-and, yes-or, no-or}
+use Rattle.sets.proofs.Bits.{in-out}
+use Rattle.sets.proofs.Sets.{yes-has, no-has, yes-within, no-within, yes-isEmpty, isEmpty-yes}
+use Rattle.values.specs.Values.{inRange}
+use Rattle.records.specs.declared.Record.{Record}
+use Rattle.records.specs.declared.Record.the-variants.{Attribute, Object, Dependency, Row, Declared, Removed}
+use Rattle.records.specs.declared.Record.the-variants.{Item, CompareTwo, CompareConstant, End}
+use Rattle.relation.specs.Tables.{cellOf}
+use Rattle.scheme.specs.declared.Scheme.{Scheme}
+use Rattle.book.specs.Faults.{firstOf, someNonZero, someOutside, wrongCells, rowChecks, maximalChecks, checks}
+use Rattle.book.specs.Faults.{faultOf}
+use Rattle.book.specs.Conditions.{Condition, _gives_, First, NonZeroUnneeded, OutsideItsKind}
+use Rattle.book.specs.Conditions.{rowConditions, maximalConditions, conditions}
+
+-- ---- tests and conditions
+
+-- a test passes exactly if the condition holds
+record Same (test : Bool) (P : Type 0) : Type 0 where
+  yes : test ≡ true → P
+  no : test ≡ false → P → ⊥
+
+data Agree : List (Bool × ℕ) → List Condition → Type 1 where
+  ended : Agree [] []
+  next : {t : Bool} {P : Type 0} {n : ℕ} {ts : List (Bool × ℕ)} {cs : List Condition} → Same t P → Agree ts cs
+      → Agree ((t, n) ∷ ts) ((P gives n) ∷ cs)
+
+first-agrees : {ts : List (Bool × ℕ)} {cs : List Condition} → Agree ts cs → First cs (firstOf ts)
+unfolding First firstOf
+first-agrees ended = refl
+first-agrees (next {t = true} s a) = inl (s .yes refl, refl)
+first-agrees (next {t = false} s a) = inr (s .no refl, first-agrees a)
+
+first-unique : (cs : List Condition) {n m : ℕ} → First cs n → First cs m → n ≡ m
+unfolding First
+first-unique [] p q = p ∙ sym q
+first-unique (c ∷ cs) (inl p) (inl q) = p .1 ∙ sym (q .1)
+first-unique (c ∷ cs) (inl p) (inr q) = absurd (q .0 (p .0))
+first-unique (c ∷ cs) (inr p) (inl q) = absurd (p .0 (q .0))
+first-unique (c ∷ cs) (inr p) (inr q) = first-unique cs (p .1) (q .1)
+
+same-or : {a b : Bool} {P Q : Type 0} → Same a P → Same b Q → Same (a || b) (P ⊎ Q)
+same-or {a} {b} s t = record {
+  yes = λ e. ⊎-elim (λ y. inl (s .yes y)) (λ y. inr (t .yes y)) (yes-or a b e);
+  no = λ e. ⊎-elim (s .no (no-or a b e .0)) (t .no (no-or a b e .1));
+}
+
+-- of three, as `||` and `⊎` group them
+same-or-three : {a b c : Bool} {P Q R : Type 0} → Same a P → Same b Q → Same c R → Same (a || b || c) (P ⊎ Q ⊎ R)
+same-or-three s t u = record {
+  yes = λ e. ⊎-elim (λ p. ⊎-elim (λ y. inl y) (λ y. inr (inl y)) p) (λ y. inr (inr y)) (same-or (same-or s t) u .yes e);
+  no = λ e. ⊎-elim (λ p. same-or (same-or s t) u .no e (inl (inl p)))
+      (λ p. ⊎-elim (λ q. same-or (same-or s t) u .no e (inl (inr q))) (λ r. same-or (same-or s t) u .no e (inr r)) p);
+}
+
+-- ---- those of numbers and sets
+
+same-always : Same true (Unit {0})
+same-always = record { yes = λ e. tt; no = λ e u. yes-no refl e }
+
+same-lt : (a b : ℕ) → Same (ltb a b) (a < b)
+same-lt a b = record { yes = ltb-true a b; no = λ e h. absurd (omega (arith, ltb-false a b e)) }
+
+same-le : (a b : ℕ) → Same (leb a b) (a ≤ b)
+same-le a b = record { yes = leb-true a b; no = λ e h. absurd (omega (arith, leb-false a b e)) }
+
+same-empty : (s : ℕ) → Same (isEmpty s) (s ≡ 0)
+same-empty s = record { yes = yes-isEmpty s; no = λ e z. yes-no (isEmpty-yes z) e }
+
+same-has : (s k : ℕ) → Same (has s k) (k ∈ s)
+same-has s k = record { yes = yes-has s k; no = λ e i. in-out i (no-has s k e) }
+
+same-absent : (s k : ℕ) → Same (not (has s k)) (k ∉ s)
+same-absent s k = record {
+  yes = λ e. no-has s k (not-true (has s k) e);
+  no = λ e o. in-out (yes-has s k (not-false (has s k) e)) o;
+}
+
+same-not-within : (s t : ℕ) → Same (not (within s t)) (s ⊆ t → ⊥)
+same-not-within s t = record {
+  yes = λ e. no-within (not-true (within s t) e);
+  no = λ e n. n (yes-within s t (not-false (within s t) e));
+}
+
+-- ---- those of a row's cells
+
+-- a cell of the list that is not zero
+nonzero-yes : (cells : List ℕ) → someNonZero cells ≡ true → (i : ℕ) × (getD cells i 0 ≡ 0 → ⊥)
+unfolding someNonZero
+nonzero-yes [] e = absurd (yes-no e refl)
+nonzero-yes (c ∷ cells) e =
+    front (λ y. nonzero-yes cells y) (yes-or (not (eqb c 0)) (someNonZero cells) e)
+  where
+    front : (someNonZero cells ≡ true → (i : ℕ) × (getD cells i 0 ≡ 0 → ⊥))
+        → (not (eqb c 0) ≡ true) ⊎ (someNonZero cells ≡ true) → (i : ℕ) × (getD (c ∷ cells) i 0 ≡ 0 → ⊥)
+    front later (inl y) = (0, eqb-false c 0 (not-true (eqb c 0) y))
+    front later (inr y) = (suc (later y .0), later y .1)
+
+nonzero-no : (cells : List ℕ) → someNonZero cells ≡ false → (i : ℕ) → getD cells i 0 ≡ 0
+unfolding someNonZero
+nonzero-no [] e i = refl
+nonzero-no (c ∷ cells) e zero = eqb-true c 0 (not-false (eqb c 0) (no-or (not (eqb c 0)) (someNonZero cells) e .0))
+nonzero-no (c ∷ cells) e (suc i) = nonzero-no cells (no-or (not (eqb c 0)) (someNonZero cells) e .1) i
+
+-- from place n on there is none
+pub unneeded-zero : (n : ℕ) (cells : List ℕ) → someNonZero (drop n cells) ≡ false → (i : ℕ) → n ≤ i → getD cells i 0 ≡ 0
+unneeded-zero n cells e i h =
+    let past : i ≡ n + (i - n) = omega arith in
+    ap (λ (k : ℕ). getD cells k 0) past ∙ sym (getD-drop n cells (i - n) 0) ∙ nonzero-no (drop n cells) e (i - n)
+
+same-unneeded : (set : ℕ) (cells : List ℕ) → Same (someNonZero (drop (count 32 set) cells)) (NonZeroUnneeded set cells)
+same-unneeded set cells = record {
+  yes = λ e.
+      let p = nonzero-yes (drop (count 32 set) cells) e in
+      record {
+        place = count 32 set + p .0;
+        unneeded = omega arith;
+        nonZero = λ z. p .1 (getD-drop (count 32 set) cells (p .0) 0 ∙ z);
+      };
+  no = λ e u. u .nonZero (unneeded-zero (count 32 set) cells e (u .place) (u .unneeded));
+}
+
+module _ (kinds : List ℕ) (set : ℕ) (cells : List ℕ) where
+  outside-yes : (k : ℕ) → k ≤ 32 → someOutside kinds set cells k ≡ true → OutsideItsKind kinds set cells
+  unfolding someOutside
+  outside-yes zero h e = absurd (yes-no e refl)
+  outside-yes (suc k) h e =
+      ⊎-elim (λ y. outside-yes k (omega arith) y) here
+      (yes-or (someOutside kinds set cells k) (has set k && not (inRange (getD kinds k 0) (cellOf set cells k))) e)
+    where
+      here : (has set k && not (inRange (getD kinds k 0) (cellOf set cells k))) ≡ true → OutsideItsKind kinds set cells
+      here y =
+          let both = yes-and (has set k) (not (inRange (getD kinds k 0) (cellOf set cells k))) y in
+          record {
+            attribute = k;
+            below = h;
+            member = yes-has set k (both .0);
+            outside = not-true (inRange (getD kinds k 0) (cellOf set cells k)) (both .1);
+          }
+
+  pub outside-no : (k : ℕ) → someOutside kinds set cells k ≡ false → (a : ℕ) → a < k → a ∈ set
+      → inRange (getD kinds a 0) (cellOf set cells a) ≡ true
+  unfolding someOutside
+  outside-no zero e a h i = absurd (omega arith)
+  outside-no (suc k) e a h i =
+      ⊎-elim (λ q. last q (no-and (has set k) (not (inRange (getD kinds k 0) (cellOf set cells k))) (parts .1)))
+      (λ l. outside-no k (parts .0) a l i) (eq-or-lt-of-le (le-of-suc-le-suc h))
+    where
+      parts : (someOutside kinds set cells k ≡ false)
+          × ((has set k && not (inRange (getD kinds k 0) (cellOf set cells k))) ≡ false)
+      parts = no-or (someOutside kinds set cells k) (has set k && not (inRange (getD kinds k 0) (cellOf set cells k))) e
+
+      last : a ≡ k → (has set k ≡ false) ⊎ (not (inRange (getD kinds k 0) (cellOf set cells k)) ≡ false)
+          → inRange (getD kinds a 0) (cellOf set cells a) ≡ true
+      last q (inl n) = absurd (in-out i (subst (λ (x : ℕ). x ∉ set) (sym q) (no-has set k n)))
+      last q (inr n) =
+          subst (λ (x : ℕ). inRange (getD kinds x 0) (cellOf set cells x) ≡ true) (sym q)
+          (not-false (inRange (getD kinds k 0) (cellOf set cells k)) n)
+
+  same-outside : Same (someOutside kinds set cells 32) (OutsideItsKind kinds set cells)
+  same-outside = record {
+    yes = outside-yes 32 (le-refl 32);
+    no = λ e o. yes-no (outside-no 32 e (o .attribute) (o .below) (o .member)) (o .outside);
+  }
+
+  same-wrong : Same (wrongCells kinds set cells) (NonZeroUnneeded set cells ⊎ OutsideItsKind kinds set cells)
+  unfolding wrongCells
+  same-wrong = same-or (same-unneeded set cells) same-outside
+
+-- ---- each kind
+
+row-agrees : (s : Scheme) (object : ℕ) (cells : List ℕ) → Agree (rowChecks s object cells) (rowConditions s object
+    cells)
+unfolding rowChecks rowConditions
+row-agrees s object cells =
+    next (same-lt 31 object) (next (same-absent (s .objects) object)
+    (next (same-wrong (s .kinds) (getD (s .sets) object 0) cells) ended))
+
+maximal-agrees : (s : Scheme) (n set : ℕ) → Agree (maximalChecks s n set) (maximalConditions s n set)
+unfolding maximalChecks maximalConditions
+maximal-agrees s n set = next (same-le 8 n) (next (same-empty set) (next (same-not-within set (s .objects)) ended))
+
+agrees : (s : Scheme) (r : Record) → Agree (checks s r) (conditions s r)
+unfolding checks conditions
+agrees s (Attribute id kind) =
+    next (same-or (same-lt 31 id) (same-lt 3 kind)) (next (same-has (s .attributes) id) ended)
+agrees s (Object number set) =
+    next (same-or-three (same-lt 31 number) (same-empty set) (same-lt 6 (count 32 set)))
+    (next (same-has (s .objects) number) (next (same-not-within set (s .attributes)) ended))
+agrees s (Dependency left right) =
+    next (same-le 64 (s .dependencies)) (next (same-or (same-empty left) (same-empty right))
+    (next (same-or (same-not-within left (s .attributes)) (same-not-within right (s .attributes))) ended))
+agrees s (Row object c0 c1 c2 c3 c4 c5) = row-agrees s object (c0 ∷ c1 ∷ c2 ∷ c3 ∷ c4 ∷ c5 ∷ [])
+agrees s (Declared set) = maximal-agrees s (s .declarations) set
+agrees s (Removed set) = maximal-agrees s (s .removals) set
+agrees s (Item variable attribute) = next same-always ended
+agrees s (CompareTwo variable attribute operator variable2 attribute2) = next same-always ended
+agrees s (CompareConstant variable attribute operator cell) = next same-always ended
+agrees s End = next same-always ended
+
+-- ---- the first
+
+pub fault-first : (s : Scheme) (r : Record) → First (conditions s r) (faultOf s r)
+unfolding faultOf
+fault-first s r = first-agrees (agrees s r)
+
+pub first-fault : (s : Scheme) (r : Record) {n : ℕ} → First (conditions s r) n → faultOf s r ≡ n
+first-fault s r f = first-unique (conditions s r) (fault-first s r) f
+
+-- ---- its range: a fault is a number from 2 to 7
+
+Between : List Condition → Type 0
+Between [] = Unit {0}
+Between (c ∷ cs) = ((2 ≤ c .number) × (c .number ≤ 7)) × Between cs
+
+first-between : (cs : List Condition) (n : ℕ) → Between cs → First cs n → (n ≡ 0 → ⊥) → (2 ≤ n) × (n ≤ 7)
+unfolding First Between
+first-between [] n b f d = absurd (d f)
+first-between (c ∷ cs) n b (inl f) d = subst (λ (x : ℕ). (2 ≤ x) × (x ≤ 7)) (sym (f .1)) (b .0)
+first-between (c ∷ cs) n b (inr f) d = first-between cs n (b .1) (f .1) d
+
+between : (s : Scheme) (r : Record) → Between (conditions s r)
+unfolding Between conditions rowConditions maximalConditions
+between s (Attribute id kind) = omega arith
+between s (Object number set) = omega arith
+between s (Dependency left right) = omega arith
+between s (Row object c0 c1 c2 c3 c4 c5) = omega arith
+between s (Declared set) = omega arith
+between s (Removed set) = omega arith
+between s (Item variable attribute) = omega arith
+between s (CompareTwo variable attribute operator variable2 attribute2) = omega arith
+between s (CompareConstant variable attribute operator cell) = omega arith
+between s End = omega arith
+
+pub fault-between : (s : Scheme) (r : Record) → (faultOf s r ≡ 0 → ⊥) → (2 ≤ faultOf s r) × (faultOf s r ≤ 7)
+fault-between s r d = first-between (conditions s r) (faultOf s r) (between s r) (fault-first s r) d

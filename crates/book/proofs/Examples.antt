@@ -1,0 +1,100 @@
+-- Worked examples: what reading gives beside what the paper says, in one list under one theorem.
+-- In order: the unit's book, three objects in a ring, small books, the trials.
+-- Assumes nothing.
+use mathlib.Core.Path.{_≡_, refl}
+use mathlib.Core.Bool.{true, false, not, _&&_, _||_}
+use mathlib.Core.List.{List, [], _∷_, _++_, map}
+use Prim.Native.Nat.{ℕ}
+use lib.ListN.{length}
+use Rattle.sets.specs.Sets.{bit, has, within, _∩_, _∪_, _∖_, single, isEmpty, rank, count, members}
+use Rattle.values.specs.Values.{inRange}
+use Rattle.reduction.specs.Kept.{union, around, someHolds, removable, stays, staying, settle, left, acyclic}
+use Rattle.reduction.specs.Kept.{goesFor, goes, keeps, keptOf}
+use Rattle.records.specs.Fields.{bytes, value, field}
+use Rattle.records.specs.Records.{isKind, bodyLengths, bodyLength, kindOf, bytesOf, bytesOfAll}
+use Rattle.records.specs.Reader.{bodies, recordOf, readFront, readAt}
+use Rattle.records.specs.declared.Record.{Record}
+use Rattle.records.specs.declared.Record.the-variants.{Attribute, Object, Dependency, Row, Declared, Removed, Item}
+use Rattle.relation.specs.Tables.{cellOf}
+use Rattle.scheme.specs.Dependencies.{pass, passes, closure}
+use Rattle.scheme.specs.Growing.{familyOf, attributesOf, joins, holding, rounds, grown}
+use Rattle.scheme.specs.MaximalObjects.{computed, isOne, removing, adding, maximalObjects, someUnmatched, someCyclic}
+use Rattle.scheme.specs.OfScheme.{pairs, computedOf, maximalOf, unmatchedOf, cyclicOf}
+use Rattle.book.specs.Faults.{ofBook, firstOf, someNonZero, someOutside, wrongCells, rowChecks, maximalChecks}
+use Rattle.book.specs.Faults.{checks, faultOf}
+use Rattle.book.specs.Declaring.{nothingDeclared, withAttribute, withObject, withDependency, withDeclared}
+use Rattle.book.specs.Declaring.{withRemoved, declare}
+use Rattle.book.specs.Reading.{Outcome, isRow, withRow, shortFault, readFrom, records, lastFault, afterLast}
+use Rattle.book.specs.Reading.{lastNumber, read, maximalsOf}
+
+-- ---- the unit's book: "attributes 0 STATION, 1 LEAD, 2 TRIP (names), 3 DEPTH (length); objects 0 {0,1}, 1 {0,2}, 2 {0,3};
+-- dependencies {0} to {2} and {0} to {3}. Rows: object 0 (10,501) (11,502) (12,503); object 1 (10,7) (11,7) (13,7); object 2
+-- (10,-2500) (12,-900)."
+
+unfoldable pub survey : List Record
+survey =
+    Attribute 0 0 ∷ Attribute 1 0 ∷ Attribute 2 0 ∷ Attribute 3 1
+    ∷ Object 0 3 ∷ Object 1 5 ∷ Object 2 9
+    ∷ Dependency 1 4 ∷ Dependency 1 8
+    ∷ Row 0 10 501 0 0 0 0 ∷ Row 0 11 502 0 0 0 0 ∷ Row 0 12 503 0 0 0 0
+    ∷ Row 1 10 7 0 0 0 0 ∷ Row 1 11 7 0 0 0 0 ∷ Row 1 13 7 0 0 0 0
+    ∷ Row 2 10 4294964796 0 0 0 0 ∷ Row 2 12 4294966396 0 0 0 0
+    ∷ []
+
+-- ---- "Objects AB, BC, CA with A to B and B to C". Attributes: 0 A, 1 B, 2 C
+
+unfoldable pub ring : List Record
+ring =
+    Attribute 0 0 ∷ Attribute 1 0 ∷ Attribute 2 0 ∷ Object 0 3 ∷ Object 1 6 ∷ Object 2 5
+    ∷ Dependency 1 2 ∷ Dependency 2 4 ∷ []
+
+-- ---- small books: an angle with an object of it, and eight maximal objects declared
+
+unfoldable pub angles : List Record
+angles = Attribute 0 2 ∷ Object 0 1 ∷ []
+
+unfoldable pub eight : List Record
+eight =
+    angles
+    ++ Declared 1 ∷ Declared 1 ∷ Declared 1 ∷ Declared 1 ∷ Declared 1 ∷ Declared 1 ∷ Declared 1 ∷ Declared 1 ∷ []
+
+-- ---- the trials
+
+-- the number, how many rows, and the maximal objects
+unfoldable pub result : List ℕ → List ℕ
+result b = let o : Outcome = read b in o .number ∷ length (o .rows) ∷ maximalsOf o
+
+abbrev pub book : List Record → List ℕ
+book rs = result (bytesOfAll rs)
+
+pub record Trial : Type 0 where
+  pub gives : List ℕ
+  pub says : List ℕ
+
+unfoldable pub trials : List Trial
+trials =
+    record { gives = book survey; says = 0 ∷ 8 ∷ 7 ∷ [] }  -- good, with one maximal object of all three
+    ∷ record { gives = result []; says = 0 ∷ 0 ∷ [] }  -- "A file that can't be opened counts as an empty book."
+    ∷ record { gives = book ring; says = 9 ∷ 0 ∷ 7 ∷ [] }  -- "Objects AB, BC, CA with A to B and B to C: 9"
+    ∷ record { gives = book (ring ++ Object 3 7 ∷ []); says = 0 ∷ 0 ∷ 15 ∷ [] }  -- "With object ABC also: accepted."
+    ∷ record { gives = book (ring ++ Removed 1 ∷ []); says = 8 ∷ 0 ∷ 7 ∷ [] }  -- 8 comes before 9
+    ∷ record { gives = book (Item 0 0 ∷ []); says = 2 ∷ 0 ∷ [] }  -- a kind of a query
+    ∷ record { gives = result (1 ∷ 0 ∷ []); says = 3 ∷ 0 ∷ [] }  -- a body cut short
+    ∷ record { gives = result (8 ∷ 0 ∷ []); says = 2 ∷ 0 ∷ [] }  -- a kind of a query cut short
+    ∷ record { gives = book (eight ++ Declared 0 ∷ []); says = 4 ∷ 0 ∷ [] }  -- 4 comes before 5
+    ∷ record { gives = book (angles ++ Object 0 2 ∷ []); says = 6 ∷ 0 ∷ [] }  -- 6 comes before 7
+    ∷ record { gives = book (angles ++ Row 1 36000 1 0 0 0 0 ∷ []); says = 7 ∷ 0 ∷ [] }  -- the row's object first
+    ∷ record { gives = book (angles ++ Row 0 35999 0 0 0 0 0 ∷ []); says = 0 ∷ 1 ∷ 1 ∷ [] }
+    ∷ record { gives = book (angles ++ Row 0 36000 0 0 0 0 0 ∷ []); says = 5 ∷ 0 ∷ [] }  -- "an angle over 35,999"
+    ∷ record { gives = book (angles ++ Row 0 0 0 0 0 0 1 ∷ []); says = 5 ∷ 0 ∷ [] }  -- "a non-zero unneeded cell"
+    ∷ []
+
+pub trials-hold : map (λ t. t .gives) trials ≡ map (λ t. t .says) trials
+unfolding trials survey ring angles eight result read afterLast lastFault lastNumber records readFrom shortFault withRow isRow
+    maximalsOf declare withRemoved withDeclared withDependency withObject withAttribute nothingDeclared faultOf checks
+    maximalChecks rowChecks wrongCells someOutside someNonZero firstOf ofBook cyclicOf unmatchedOf maximalOf computedOf
+    pairs someCyclic someUnmatched maximalObjects adding removing isOne computed grown rounds holding joins attributesOf
+    familyOf closure passes pass cellOf readAt readFront recordOf bodies bytesOfAll bytesOf kindOf bodyLength bodyLengths
+    isKind field value bytes keptOf keeps goes goesFor acyclic left settle staying stays removable someHolds around union
+    inRange members rank isEmpty single _∖_ _∪_ _∩_ within has bit
+trials-hold = refl

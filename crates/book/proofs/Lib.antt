@@ -1,0 +1,13 @@
+pub mod Faults
+pub mod Cells
+pub mod Declaring
+pub mod Lists
+pub mod Accepting
+pub mod Walking
+pub mod Conditions
+pub mod Outcomes
+pub mod WellFormed
+pub mod TablesOf
+pub mod Books
+pub mod Theorems
+pub mod Examples

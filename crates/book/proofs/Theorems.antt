@@ -1,0 +1,129 @@
+-- The theorems of `Statements`, in its order.
+-- Assumes nothing.
+use mathlib.Core.Path.{_≡_, refl, sym, subst}
+use mathlib.Core.Logic.{inl, inr, ⊎-elim}
+use mathlib.Core.Bool.{false}
+use mathlib.Core.List.{List, []}
+use Prim.Native.Nat.{ℕ, _≤_, _<_}
+use native.Mathlib.Omega.{arith}
+use lib.ListN.{length}
+use Rattle.sets.specs.Sets.{_⊆_}
+use Rattle.sets.proofs.Numbers.{lt-or-le}
+use Rattle.reduction.specs.Steps.{Family}
+use Rattle.reduction.specs.Kept.{union}
+use Rattle.reduction.specs.Statements.{OfAttributes}
+use Rattle.records.specs.declared.Record.{Record}
+use Rattle.relation.specs.Tables.{family}
+use Rattle.relation.proofs.Theorems.{demand3}
+use Rattle.scheme.specs.declared.Scheme.{Scheme}
+use Rattle.scheme.specs.Growing.{familyOf, attributesOf}
+use Rattle.scheme.specs.OfScheme.{maximalOf, cyclicOf}
+use Rattle.scheme.proofs.Theorems.{cyclic-is-a-fault}
+use Rattle.book.specs.Reading.{Outcome, read}
+use Rattle.book.specs.Accepting.{Accepted, none, AtLast, good}
+use Rattle.book.specs.Conditions.{First, conditions}
+use Rattle.book.specs.Statements.{FaultMeans, ReadExactly, StopsWith, NumberMeans, AcceptedWhole}
+use Rattle.book.specs.Statements.{SchemeWellFormed}
+use Rattle.book.specs.Statements.{TablesOfBook, GoodBook, MaximalObjectsOfBook}
+use Rattle.book.specs.TablesOf.{tablesOf}
+use Rattle.book.proofs.Conditions.{fault-first, first-fault}
+use Rattle.book.proofs.Outcomes.{read-over, read-stops, stops-read, number-at-most, number-over, number-not-one}
+use Rattle.book.proofs.Outcomes.{number-within, number-faulty, faulty-number, number-whole, whole-number}
+use Rattle.book.proofs.Outcomes.{good-last}
+use Rattle.book.proofs.WellFormed.{accepted-well-formed, family-of-attributes, maximal-some}
+use Rattle.book.proofs.TablesOf.{tables-family, tables-in-range}
+
+-- ---- the fault of a record
+
+pub fault-means : (s : Scheme) (r : Record) → FaultMeans s r
+fault-means s r = record {
+  exactly = λ n. (λ e. subst (First (conditions s r)) e (fault-first s r), λ f. first-fault s r f);
+}
+
+-- ---- where reading stops
+
+pub read-exactly : (b : List ℕ) → ReadExactly b
+read-exactly b = record {
+  over = read-over b;
+  exactly = λ h o. (λ e. subst (StopsWith b) e (read-stops b h), λ w. stops-read b o h w);
+}
+
+-- ---- the number
+
+pub number-means : (b : List ℕ) → NumberMeans b
+number-means b = record {
+  atMostNine = number-at-most b;
+  one = (
+    λ e. ⊎-elim (λ h. h) (λ h. absurd (number-not-one b h e)) (lt-or-le 65536 (length b)),
+    λ h. number-over b h,
+  );
+  twoToSeven = λ n l u. (
+    λ e. let h = number-within b (λ z. omega arith) in (h, number-faulty b n l u h e),
+    λ p. faulty-number b n (p .0) (p .1),
+  );
+  zero = (
+    λ e. let h = number-within b (λ z. omega arith) in (h, number-whole b 0 (inl refl) h e),
+    λ p. whole-number b 0 (p .0) (p .1),
+  );
+  eight = (
+    λ e. let h = number-within b (λ z. omega arith) in (h, number-whole b 8 (inr (omega arith)) h e),
+    λ p. whole-number b 8 (p .0) (p .1),
+  );
+  nine = (
+    λ e. let h = number-within b (λ z. omega arith) in (h, number-whole b 9 (inr (omega arith)) h e),
+    λ p. whole-number b 9 (p .0) (p .1),
+  );
+}
+
+-- ---- the scheme
+
+-- the scheme and the rows of any outcome are those of accepted records
+record SomeAccepted (b : List ℕ) : Type 0 where
+  passed : List Record
+  at : ℕ
+  accepted : Accepted b passed (read b .scheme) (read b .rows) at
+
+some-accepted : (b : List ℕ) → SomeAccepted b
+some-accepted b = ⊎-elim over within (lt-or-le 65536 (length b))
+  where
+    over : 65536 < length b → SomeAccepted b
+    over h = record {
+      passed = [];
+      at = 0;
+      accepted = subst (λ (o : Outcome). Accepted b [] (o .scheme) (o .rows) 0) (sym (read-over b h)) none;
+    }
+
+    within : length b ≤ 65536 → SomeAccepted b
+    within h = let w = read-stops b h in record { passed = w .passed; at = w .at; accepted = w .accepted }
+
+pub scheme-well-formed : (b : List ℕ) → SchemeWellFormed b
+scheme-well-formed b = record { wellFormed = accepted-well-formed (some-accepted b .accepted) }
+
+-- ---- the tables and maximal objects of a good book
+
+pub tables-of-book : (b : List ℕ) (M : ℕ) → TablesOfBook b M
+tables-of-book b M = record {
+  familyIs = tables-family b (read b) M;
+  rowsInRange = tables-in-range (read b) (some-accepted b .accepted) M;
+}
+
+-- no maximal object of a good book has a cycle
+good-acyclic : {s : Scheme} → AtLast s 0 → cyclicOf s ≡ false
+good-acyclic (good p q) = q
+
+pub maximal-objects-of-book : (b : List ℕ) → MaximalObjectsOfBook b
+unfolding cyclicOf attributesOf
+maximal-objects-of-book b = record {
+  good = λ e M m.
+      let v = scheme-well-formed b .wellFormed in
+      let F = tables-family b (read b) M in
+      record {
+        someObjects = maximal-some v M m;
+        isAcyclic = cyclic-is-a-fault (read b .scheme .sets) (maximalOf (read b .scheme)) .noBack (good-acyclic
+            (good-last b e)) M m;
+        demand3 = λ X some inside.
+            demand3 (read b .scheme .kinds) (tablesOf b (read b) M) X
+            (subst OfAttributes (sym F) (family-of-attributes v M))
+            (subst (λ (G : Family). X ⊆ union G) (sym F) inside) some;
+      };
+}

@@ -1,0 +1,138 @@
+-- What the loop over the records keeps, and how a turn carries it on: the records passed are accepted, their rows are
+-- counted and stored.
+-- In order: the start, what the code needs of it, a turn, the ways out.
+-- Assumes nothing.
+use mathlib.Core.Path.{_≡_, refl, sym, ap, ap₂, _∙_, subst}
+use mathlib.Core.Bool.{Bool, true, false}
+use mathlib.Core.List.{List, [], _∷_, _++_}
+use Prim.Native.Nat.{ℕ, _+_, _≤_, _<_}
+use native.Mathlib.Omega.{arith}
+use lib.ListN.{length, set, length-append}
+use Rattle.records.specs.Reader.{readAt}
+use Rattle.records.specs.declared.Record.{Record}
+use Rattle.records.specs.declared.Reading.the-variants.{Nothing, Unknown, Short, Found}
+use Rattle.scheme.specs.declared.Scheme.{Scheme}
+use Rattle.book.specs.Faults.{SixAtMost, faultOf}
+use Rattle.book.specs.Declaring.{nothingDeclared, declare}
+use Rattle.book.specs.Reading.{Outcome, isRow, withRow, shortFault, records, walkedOf, stored}
+use Rattle.book.specs.Accepting.{Accepted, none, one}
+use Rattle.book.specs.declared.Walked.{Walked}
+use Rattle.book.proofs.WellFormed.{accepted-well-formed, well-formed-six}
+use Rattle.book.proofs.Lists.{stored-none, length-stored, stored-one, stored-full}
+use Rattle.book.proofs.Accepting.{accepted-inside, accepted-rows, withRow-yes, withRow-no}
+use Rattle.book.proofs.Accepting.{stops-nothing, stops-unknown, stops-short, stops-faulty}
+
+pub record Walking (b dir₀ dir : List ℕ) (s : Scheme) (rows at : ℕ) : Type 0 where
+  pub passed : List Record
+  pub places : List ℕ
+  pub accepted : Accepted b passed s places at
+  pub counted : rows ≡ length places
+  pub kept : dir ≡ stored places dir₀
+
+pub walking-start : (b dir : List ℕ) {s : Scheme} → s ≡ nothingDeclared → Walking b dir dir s 0 0
+walking-start b dir e = record {
+  passed = [];
+  places = [];
+  accepted = subst (λ (s : Scheme). Accepted b [] s [] 0) (sym e) none;
+  counted = refl;
+  kept = sym (stored-none dir);
+}
+
+module _ {b dir₀ dir : List ℕ} {s : Scheme} {rows at : ℕ} (v : Walking b dir₀ dir s rows at) where
+  -- ---- what the code needs of it
+
+  pub walking-same : length dir ≡ length dir₀
+  walking-same = ap length (v .kept) ∙ length-stored (v .places) dir₀
+
+  pub walking-inside : at ≤ length b
+  walking-inside = accepted-inside (v .accepted)
+
+  pub walking-rows : rows ≤ at
+  walking-rows = omega (arith, accepted-rows (v .accepted), v .counted)
+
+  pub walking-six : SixAtMost s
+  walking-six = well-formed-six (accepted-well-formed (v .accepted))
+
+  -- ---- a turn
+
+  module _ {r : Record} {next : ℕ} (e : readAt b at ≡ Found r next) (f : faultOf s r ≡ 0) where
+    walking-next : (d : List ℕ) (n : ℕ) → n ≡ length (withRow (v .places) r at)
+        → d ≡ stored (withRow (v .places) r at) dir₀ → Walking b dir₀ d (declare s r) n next
+    walking-next d n c k = record {
+      passed = v .passed ++ r ∷ [];
+      places = withRow (v .places) r at;
+      accepted = one (v .accepted) e f;
+      counted = c;
+      kept = k;
+    }
+
+    one-more : isRow r ≡ true → rows + 1 ≡ length (withRow (v .places) r at)
+    one-more y =
+        omega (arith, v .counted, length-append (v .places) (at ∷ []), ap length (withRow-yes (v .places) r at y))
+
+    pub walking-stored : isRow r ≡ true → rows < length dir → Walking b dir₀ (set dir rows at) (declare s r) (rows +
+        1) next
+    walking-stored y l =
+        walking-next (set dir rows at) (rows + 1) (one-more y)
+        (ap₂ (λ (d : List ℕ) (k : ℕ). set d k at) (v .kept) (v .counted)
+        ∙ stored-one (v .places) dir₀ at (omega (arith, v .counted, walking-same))
+        ∙ ap (λ (p : List ℕ). stored p dir₀) (sym (withRow-yes (v .places) r at y)))
+
+    pub walking-full : isRow r ≡ true → length dir ≤ rows → Walking b dir₀ dir (declare s r) (rows + 1) next
+    walking-full y l =
+        walking-next dir (rows + 1) (one-more y)
+        (v .kept ∙ stored-full (v .places) dir₀ at (omega (arith, v .counted, walking-same))
+        ∙ ap (λ (p : List ℕ). stored p dir₀) (sym (withRow-yes (v .places) r at y)))
+
+    pub walking-other : isRow r ≡ false → Walking b dir₀ dir (declare s r) rows next
+    walking-other n =
+        walking-next dir rows (v .counted ∙ ap length (sym (withRow-no (v .places) r at n)))
+        (v .kept ∙ ap (λ (p : List ℕ). stored p dir₀) (sym (withRow-no (v .places) r at n)))
+
+  -- ---- the ways out: the number n, with the scheme and the rows of the records passed
+
+  walking-out : (n : ℕ) → records b ≡ record { number = n; scheme = s; rows = v .places }
+      → (_≡_ {A = Walked} (record { refusal = n; rows = rows; scheme = s }) (walkedOf (records b)))
+      × (dir ≡ stored (records b .rows) dir₀)
+  unfolding walkedOf
+  walking-out n e = (
+    ap {B = Walked} (λ (k : ℕ). record { refusal = n; rows = k; scheme = s }) (v .counted) ∙ ap walkedOf (sym e),
+    v .kept ∙ ap (λ (o : Outcome). stored (o .rows) dir₀) (sym e),
+  )
+
+  pub walking-ended : readAt b at ≡ Nothing
+      → (_≡_ {A = Walked} (record { refusal = 0; rows = rows; scheme = s }) (walkedOf (records b)))
+      × (dir ≡ stored (records b .rows) dir₀)
+  walking-ended e = walking-out 0 (stops-nothing (v .accepted) e)
+
+  pub walking-unknown : readAt b at ≡ Unknown
+      → (_≡_ {A = Walked} (record { refusal = 2; rows = rows; scheme = s }) (walkedOf (records b)))
+      × (dir ≡ stored (records b .rows) dir₀)
+  walking-unknown e = walking-out 2 (stops-unknown (v .accepted) e)
+
+  pub walking-short : {k n : ℕ} → readAt b at ≡ Short k → n ≡ shortFault k
+      → (_≡_ {A = Walked} (record { refusal = n; rows = rows; scheme = s }) (walkedOf (records b)))
+      × (dir ≡ stored (records b .rows) dir₀)
+  walking-short {n = n} e q =
+      walking-out n
+      (stops-short (v .accepted) e
+      ∙ ap {B = Outcome} (λ (m : ℕ). record { number = m; scheme = s; rows = v .places }) (sym q))
+
+  pub walking-faulty : {r : Record} {next n : ℕ} → readAt b at ≡ Found r next → n ≡ faultOf s r → (n ≡ 0 → ⊥)
+      → (_≡_ {A = Walked} (record { refusal = n; rows = rows; scheme = s }) (walkedOf (records b)))
+      × (dir ≡ stored (records b .rows) dir₀)
+  walking-faulty {n = n} e q d =
+      walking-out n
+      (stops-faulty (v .accepted) e (λ z. d (q ∙ z))
+      ∙ ap {B = Outcome} (λ (m : ℕ). record { number = m; scheme = s; rows = v .places }) (sym q))
+
+-- the same of a directory, a scheme and a count that are equal to these
+pub walking-as : {b dir₀ dir d : List ℕ} {s t : Scheme} {rows at n : ℕ} → Walking b dir₀ dir s rows at → d ≡ dir → t ≡ s
+    → n ≡ rows → Walking b dir₀ d t n at
+walking-as {b} {at = at} v e q c = record {
+  passed = v .passed;
+  places = v .places;
+  accepted = subst (λ (x : Scheme). Accepted b (v .passed) x (v .places) at) (sym q) (v .accepted);
+  counted = c ∙ v .counted;
+  kept = e ∙ v .kept;
+}

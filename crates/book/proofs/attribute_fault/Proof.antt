@@ -1,0 +1,46 @@
+-- `book::attribute_fault` meets its contract: each way out is the first check of kind 1 that holds. Assumes nothing.
+use mathlib.Core.List.{[], _∷_}
+use lib.Dec.{ltb}
+use Rattle.sets.specs.Sets.{has}
+use borrow.Author.Tests.{lt-ltb, le-ltb}
+use mathlib.Core.Path.{refl}
+use Rattle.sets.proofs.Tests.{or-left, or-right, or-no}
+use Rattle.book.specs.Faults.{checks, faultOf}
+use Rattle.book.proofs.Faults.{first-yes, first-no, first-none, tested-member}
+use borrow.Author.Needs.{needs}
+use Rattle.book.proofs.attribute_fault.Statement.{statement}
+use Rattle.book.proofs.attribute_fault.Tie as tie
+
+returns : tie.Need-returns
+unfolding faultOf checks
+returns c = first-yes _ (or-left _ (lt-ltb 31 _ (c .if1 .taken)))
+
+returns-2 : tie.Need-returns-2
+unfolding faultOf checks
+returns-2 c =
+    first-yes ((has _ _, 6) ∷ []) (or-right (ltb 31 (c .before .before .args .id)) (lt-ltb 3 (c .before .before .args
+    .kind) (c .if2 .taken)))
+
+wide-requires : tie.Need-wide-requires
+wide-requires c κs = search needs
+
+has-requires : tie.Need-has-requires
+has-requires c κs = search needs
+
+returns-3 : tie.Need-returns-3
+unfolding faultOf checks
+returns-3 c =
+    first-no _ _ (or-no (le-ltb 31 _ (c .before .before .before .before .if1 .left)) (le-ltb 3 _ (c .before .before
+    .before .if2 .left))) (first-yes _ (tested-member _ (c .before .has .ensures) (c .before .before .wide .ensures
+    .0) (c .if3 .taken)))
+
+returns-4 : tie.Need-returns-4
+unfolding faultOf checks
+returns-4 c =
+    first-no _ _ (or-no (le-ltb 31 _ (c .before .before .before .before .if1 .left)) (le-ltb 3 _ (c .before .before
+    .before .if2 .left))) (first-no _ _ (tested-member _ (c .before .has .ensures) (c .before .before .wide .ensures
+    .0) (c .if3 .left)) first-none)
+
+pub attribute-fault-spec : {M : Type 1} → statement M
+attribute-fault-spec =
+    tie.close (tie.spec returns returns-2 wide-requires has-requires returns-3 returns-4)

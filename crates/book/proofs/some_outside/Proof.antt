@@ -1,0 +1,97 @@
+-- `book::some_outside` meets its contract. The invariant: no attribute passed has a cell outside its range
+-- (`InsideSoFar`). The measure: the attributes left. Assumes nothing.
+use Prim.Native.Nat.{_-_, _<_}
+use mathlib.Core.Path.{sym, _∙_}
+use mathlib.Core.Logic.{⊎-elim}
+use native.Mathlib.Omega.{arith}
+use Rattle.book.proofs.Faults.{tested}
+use Rattle.book.proofs.Cells.{InsideSoFar, inside-start, place-in-row, outside-here, inside-with, inside-past}
+use Rattle.book.proofs.Cells.{inside-end}
+use borrow.Author.Needs.{needs}
+use Rattle.book.proofs.some_outside.Statement.{statement}
+use Rattle.book.proofs.some_outside.Tie as tie
+
+abbrev Inv-loop : tie.InvT-loop
+Inv-loop set kinds cells place₀ a₀ place a = InsideSoFar kinds set cells place a
+
+abbrev μ-loop : tie.MeasureT-loop
+μ-loop set kinds cells place₀ a₀ place a = 32 - a
+
+loop-holds : tie.Need-loop-holds Inv-loop μ-loop
+loop-holds c = inside-start _ _ _
+
+cast-has : tie.Need-cast-has Inv-loop μ-loop
+cast-has c = search needs
+
+has-requires : tie.Need-has-requires Inv-loop μ-loop
+has-requires c κs = search needs
+
+array-read-in-range : tie.Need-array-read-in-range Inv-loop μ-loop
+array-read-in-range c = search needs
+
+mul-in-range : tie.Need-mul-in-range Inv-loop μ-loop
+mul-in-range c =
+    omega (
+      arith,
+      place-in-row (c .before .before .before .loop .inv) (c .before .before .loop-test .taken) (c .before
+          .before .before .before .pre) (tested (c .before .has .ensures) (c .if1 .taken)),
+    )
+
+array-read-in-range-2 : tie.Need-array-read-in-range-2 Inv-loop μ-loop
+array-read-in-range-2 c =
+    place-in-row (c .before .before .before .loop .inv) (c .before .before .loop-test .taken) (c .before .before
+    .before .before .pre) (tested (c .before .has .ensures) (c .if1 .taken))
+
+in-range-requires : tie.Need-in-range-requires Inv-loop μ-loop
+in-range-requires c κs = search needs
+
+returns : tie.Need-returns Inv-loop μ-loop
+returns c =
+    outside-here (c .before .before .before .before .before .loop .inv) (c .before .before .before .before .loop-test
+    .taken) (tested (c .before .before .before .has .ensures) (c .before .before .if1 .taken)) (c .before .in-range
+    .ensures) (c .if2 .taken)
+
+add-place : tie.Need-add-place Inv-loop μ-loop
+add-place c =
+    omega (
+      arith,
+      place-in-row (c .before .before .before .before .before .loop .inv) (c .before .before .before
+          .before .loop-test .taken) (c .before .before .before .before .before .before .pre) (tested (c .before .before
+          .before .has .ensures) (c .before .before .if1 .taken)),
+    )
+
+add-a : tie.Need-add-a Inv-loop μ-loop
+add-a c = search needs
+
+loop-less : tie.Need-loop-less Inv-loop μ-loop
+loop-less c = search needs
+
+loop-again : tie.Need-loop-again Inv-loop μ-loop
+loop-again c =
+    ⊎-elim (λ w. inside-with (c .before .before .before .loop .inv) (c .before .before .loop-test .taken) _ (tested (c
+    .before .has .ensures) (w .0 .taken)) (w .1 .ensures) (w .2 .left) (w .3)) (λ w. inside-past (c .before .before
+    .before .loop .inv) (c .before .before .loop-test .taken) _ (tested (c .before .has .ensures) (w .0 .left)) (w
+    .1)) (c .if1 .came)
+
+returns-2 : tie.Need-returns-2 Inv-loop μ-loop
+returns-2 c = inside-end (c .before .loop .inv) (c .loop-test .left)
+
+pub some-outside-spec : {M : Type 1} → statement M
+some-outside-spec =
+    tie.close
+    (tie.spec
+    Inv-loop
+    μ-loop
+    loop-holds
+    cast-has
+    has-requires
+    array-read-in-range
+    mul-in-range
+    array-read-in-range-2
+    in-range-requires
+    returns
+    add-place
+    add-a
+    loop-less
+    loop-again
+    returns-2)

@@ -1,0 +1,93 @@
+-- The checks of a record in the paper's words, as conditions and not as tests. That `faultOf` is the number of the
+-- first that holds is a theorem (`Statements`).
+-- In order: conditions, a row's cells, the conditions of each kind.
+-- Assumes nothing.
+use mathlib.Core.Path.{_≡_}
+use mathlib.Core.Bool.{false}
+use mathlib.Core.Logic.{_⊎_}
+use mathlib.Core.List.{List, [], _∷_}
+use Prim.Native.Nat.{ℕ, _≤_, _<_}
+use lib.ListN.{getD}
+use Rattle.sets.specs.Sets.{_∈_, _∉_, _⊆_, count}
+use Rattle.values.specs.Values.{inRange}
+use Rattle.records.specs.declared.Record.{Record}
+use Rattle.records.specs.declared.Record.the-variants.{Attribute, Object, Dependency, Row, Declared, Removed}
+use Rattle.records.specs.declared.Record.the-variants.{Item, CompareTwo, CompareConstant, End}
+use Rattle.relation.specs.Tables.{cellOf}
+use Rattle.scheme.specs.declared.Scheme.{Scheme}
+
+-- ---- conditions
+
+-- a condition and the number that it gives
+pub record Condition : Type 1 where
+  pub holds : Type 0
+  pub number : ℕ
+
+abbrev pub _gives_ : Type 0 → ℕ → Condition
+P gives n = record { holds = P; number = n }
+
+infix 1 _gives_
+-- n is the number of the first condition that holds, or 0 where none does
+unfoldable pub First : List Condition → ℕ → Type 0
+First [] n = n ≡ 0
+First (c ∷ cs) n = (c .holds × (n ≡ c .number)) ⊎ ((c .holds → ⊥) × First cs n)
+
+-- ---- a row's cells
+
+-- "a non-zero unneeded cell": one at a place from the count of the object's attributes on
+pub record NonZeroUnneeded (set : ℕ) (cells : List ℕ) : Type 0 where
+  pub place : ℕ
+  pub unneeded : count 32 set ≤ place
+  pub nonZero : getD cells place 0 ≡ 0 → ⊥
+
+-- an attribute of the object has a cell outside the range of its kind. Of value kinds 0 to 3 only angles have such
+-- cells: "an angle over 35,999"
+pub record OutsideItsKind (kinds : List ℕ) (set : ℕ) (cells : List ℕ) : Type 0 where
+  pub attribute : ℕ
+  pub below : attribute < 32
+  pub member : attribute ∈ set
+  pub outside : inRange (getD kinds attribute 0) (cellOf set cells attribute) ≡ false
+
+-- ---- the conditions of each kind, in a scheme of what stands before the record
+
+-- "For a row, once its object is known, a non-zero unneeded cell or an angle over 35,999 is 5."
+unfoldable pub rowConditions : Scheme → ℕ → List ℕ → List Condition
+rowConditions s object cells =
+    (31 < object gives 5)
+    ∷ (object ∉ s .objects gives 7)
+    ∷ (NonZeroUnneeded (getD (s .sets) object 0) cells ⊎ OutsideItsKind (s .kinds) (getD (s .sets) object 0) cells
+    gives 5)
+    ∷ []
+
+-- kinds 5 and 6, with n of the kind before it
+unfoldable pub maximalConditions : Scheme → ℕ → ℕ → List Condition
+maximalConditions s n set =
+    (8 ≤ n gives 4)
+    ∷ (set ≡ 0 gives 5)
+    ∷ ((set ⊆ s .objects → ⊥) gives 7)
+    ∷ []
+
+-- "kind not allowed 2; .. one more than its bound 4; field outside its range, or an empty set, or an object of over six
+-- attributes 5; attribute or object already declared 6; attribute or object not declared 7."
+unfoldable pub conditions : Scheme → Record → List Condition
+conditions s (Attribute id kind) =
+    ((31 < id) ⊎ (3 < kind) gives 5)
+    ∷ (id ∈ s .attributes gives 6)
+    ∷ []
+conditions s (Object number set) =
+    ((31 < number) ⊎ (set ≡ 0) ⊎ (6 < count 32 set) gives 5)
+    ∷ (number ∈ s .objects gives 6)
+    ∷ ((set ⊆ s .attributes → ⊥) gives 7)
+    ∷ []
+conditions s (Dependency left right) =
+    (64 ≤ s .dependencies gives 4)
+    ∷ ((left ≡ 0) ⊎ (right ≡ 0) gives 5)
+    ∷ ((left ⊆ s .attributes → ⊥) ⊎ (right ⊆ s .attributes → ⊥) gives 7)
+    ∷ []
+conditions s (Row object c0 c1 c2 c3 c4 c5) = rowConditions s object (c0 ∷ c1 ∷ c2 ∷ c3 ∷ c4 ∷ c5 ∷ [])
+conditions s (Declared set) = maximalConditions s (s .declarations) set
+conditions s (Removed set) = maximalConditions s (s .removals) set
+conditions s (Item variable attribute) = (Unit {0} gives 2) ∷ []
+conditions s (CompareTwo variable attribute operator variable2 attribute2) = (Unit {0} gives 2) ∷ []
+conditions s (CompareConstant variable attribute operator cell) = (Unit {0} gives 2) ∷ []
+conditions s End = (Unit {0} gives 2) ∷ []

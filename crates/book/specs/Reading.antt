@@ -1,0 +1,120 @@
+-- Reading the bytes of a book: the number that it is refused with or 0, the scheme, and where its rows stand.
+-- In order: rows, reading record after record, after the last record, the book, what the code gives.
+-- Not here: the fault of a whole record (`Faults`), what it adds (`Declaring`). Assumes nothing.
+use mathlib.Core.Bool.{Bool, true, false, _||_}
+use mathlib.Core.List.{List, [], _∷_, _++_}
+use Prim.Native.Nat.{ℕ, zero, suc}
+use lib.Dec.{eqb, ltb}
+use lib.ListN.{length, take, drop}
+use Rattle.records.specs.Reader.{readAt}
+use Rattle.records.specs.declared.Record.{Record}
+use Rattle.records.specs.declared.Record.the-variants.{Attribute, Object, Dependency, Row, Declared, Removed}
+use Rattle.records.specs.declared.Record.the-variants.{Item, CompareTwo, CompareConstant, End}
+use Rattle.records.specs.declared.Reading.the-variants.{Nothing, Unknown, Short, Found}
+use Rattle.scheme.specs.declared.Scheme.{Scheme}
+use Rattle.scheme.specs.OfScheme.{maximalOf, unmatchedOf, cyclicOf}
+use Rattle.reduction.specs.Packed.{padded}
+use Rattle.book.specs.declared.Book.{Book}
+use Rattle.book.specs.declared.Walked.{Walked}
+use Rattle.book.specs.Faults.{ofBook, faultOf}
+use Rattle.book.specs.Declaring.{nothingDeclared, declare}
+
+-- what reading gives: a refused book has the scheme and the rows of the records before the fault
+pub record Outcome : Type 0 where
+  pub number : ℕ
+  pub scheme : Scheme
+  pub rows : List ℕ
+
+-- ---- rows
+
+unfoldable pub isRow : Record → Bool
+isRow (Attribute id kind) = false
+isRow (Object number set) = false
+isRow (Dependency left right) = false
+isRow (Row object c0 c1 c2 c3 c4 c5) = true
+isRow (Declared set) = false
+isRow (Removed set) = false
+isRow (Item variable attribute) = false
+isRow (CompareTwo variable attribute operator variable2 attribute2) = false
+isRow (CompareConstant variable attribute operator cell) = false
+isRow End = false
+
+-- the positions of the rows so far, with that of record r at position at if it is a row
+unfoldable pub withRow : List ℕ → Record → ℕ → List ℕ
+withRow rows r at = elim (isRow r) [ true ↦ rows ++ at ∷ [] | false ↦ rows ]
+
+-- ---- reading record after record
+
+-- "kind not allowed 2; body cut short 3" of a body that is cut short
+unfoldable pub shortFault : ℕ → ℕ
+shortFault k = elim (ofBook k) [ true ↦ 3 | false ↦ 2 ]
+
+-- "the earliest faulty record": from position at on, with the scheme and the rows of the records before it. Each record
+-- is a byte or more, so there are at most n where n bytes are left
+unfoldable pub readFrom : ℕ → List ℕ → ℕ → Scheme → List ℕ → Outcome
+readFrom zero b at s rows = record { number = 0; scheme = s; rows = rows }
+readFrom (suc n) b at s rows =
+    elim (readAt b at) [
+      | Nothing ↦ record { number = 0; scheme = s; rows = rows }
+      | Unknown ↦ record { number = 2; scheme = s; rows = rows }
+      | Short k ↦ record { number = shortFault k; scheme = s; rows = rows }
+      | Found r next ↦ elim (eqb (faultOf s r) 0) [
+        | true ↦ readFrom n b next (declare s r) (withRow rows r at)
+        | false ↦ record { number = faultOf s r; scheme = s; rows = rows }
+      ]
+    ]
+
+-- the records from the start on
+unfoldable pub records : List ℕ → Outcome
+records b = readFrom (suc (length b)) b 0 nothingDeclared []
+
+-- what the code has of them
+unfoldable pub walkedOf : Outcome → Walked
+walkedOf o = record { refusal = o .number; rows = length (o .rows); scheme = o .scheme }
+
+-- ---- "After the last record: a kind 6 set equal to no computed one 8; a remaining maximal object with a cycle 9."
+
+unfoldable pub lastNumber : Bool → Bool → ℕ
+lastNumber true cyclic = 8
+lastNumber false true = 9
+lastNumber false false = 0
+
+unfoldable pub lastFault : Scheme → ℕ
+lastFault s = lastNumber (unmatchedOf s) (cyclicOf s)
+
+unfoldable pub afterLast : Outcome → Outcome
+afterLast o =
+    elim (eqb (o .number) 0) [
+      | true ↦ record { number = lastFault (o .scheme); scheme = o .scheme; rows = o .rows }
+      | false ↦ o
+    ]
+
+-- ---- the book
+
+-- "Over 65,536 bytes: 1. Then the earliest faulty record"
+unfoldable pub read : List ℕ → Outcome
+read b =
+    elim (ltb 65536 (length b)) [
+      | true ↦ record { number = 1; scheme = nothingDeclared; rows = [] }
+      | false ↦ afterLast (records b)
+    ]
+
+-- ---- what the code gives
+
+-- the maximal objects of the scheme where all records were accepted: where the number is 0, 8 or 9
+unfoldable pub maximalsOf : Outcome → List ℕ
+maximalsOf o =
+    elim (eqb (o .number) 0 || eqb (o .number) 8 || eqb (o .number) 9) [ true ↦ maximalOf (o .scheme) | false ↦ [] ]
+
+-- a number, a count of rows, a scheme and a list of maximal objects, of which there are 40 at most, with 0 behind them
+unfoldable pub bookWith : ℕ → ℕ → Scheme → List ℕ → Book
+bookWith number rows s l =
+    record { refusal = number; rows = rows; scheme = s; maximal = padded 40 l; maximals = length l }
+
+unfoldable pub bookOf : Outcome → Book
+bookOf o = bookWith (o .number) (length (o .rows)) (o .scheme) (maximalsOf o)
+
+-- what lent cells hold afterwards: the positions of the rows, as many as there are cells for; cells past them keep what
+-- they held
+unfoldable pub stored : List ℕ → List ℕ → List ℕ
+stored rows cells = take (length cells) rows ++ drop (length rows) cells

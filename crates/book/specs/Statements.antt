@@ -1,0 +1,101 @@
+-- What is proved of reading a book, for every list of bytes. The proofs are in `proofs/Theorems.antt`.
+-- In order: the fault of a record, where reading stops, the number, the scheme, the tables and maximal objects of a
+-- good book.
+-- Assumes nothing.
+use mathlib.Core.Path.{_≡_}
+use mathlib.Core.Bool.{true}
+use mathlib.Core.Logic.{_↔_}
+use mathlib.Core.List.{List, [], List·Memᴰ}
+use Prim.Native.Nat.{ℕ, _≤_, _<_}
+use lib.ListN.{length}
+use Rattle.sets.specs.Sets.{_∈_, _⊆_}
+use Rattle.reduction.specs.Kept.{acyclic}
+use Rattle.records.specs.declared.Record.{Record}
+use Rattle.relation.specs.Tables.{Row, Table, family}
+use Rattle.relation.specs.Demand3.{Demand3}
+use Rattle.scheme.specs.declared.Scheme.{Scheme}
+use Rattle.scheme.specs.Growing.{familyOf, attributesOf}
+use Rattle.scheme.specs.OfScheme.{maximalOf}
+use Rattle.scheme.specs.Statements.{SomeObjects}
+use Rattle.book.specs.Faults.{faultOf}
+use Rattle.book.specs.Declaring.{nothingDeclared}
+use Rattle.book.specs.Reading.{Outcome, read}
+use Rattle.book.specs.Accepting.{Accepted, Faulty, AtLast, Stops}
+use Rattle.book.specs.Conditions.{First, conditions}
+use Rattle.book.specs.WellFormed.{WellFormed}
+use Rattle.book.specs.TablesOf.{tablesOf, InRange}
+
+-- ---- the fault of a record
+
+-- a number is given exactly if its condition holds and none before it does; 0 exactly if none holds
+pub record FaultMeans (s : Scheme) (r : Record) : Type 0 where
+  pub exactly : (n : ℕ) → (faultOf s r ≡ n) ↔ First (conditions s r) n
+
+-- ---- where reading stops
+
+-- the records accepted from the start make the scheme and the rows of the outcome, and reading stops behind them with
+-- its number
+pub record StopsWith (b : List ℕ) (o : Outcome) : Type 0 where
+  pub passed : List Record
+  pub at : ℕ
+  pub accepted : Accepted b passed (o .scheme) (o .rows) at
+  pub stops : Stops b (o .scheme) at (o .number)
+
+pub record ReadExactly (b : List ℕ) : Type 0 where
+  -- "Over 65,536 bytes: 1."
+  pub over : 65536 < length b → read b ≡ record { number = 1; scheme = nothingDeclared; rows = [] }
+  -- "Then the earliest faulty record", or the end
+  pub exactly : length b ≤ 65536 → (o : Outcome) → (read b ≡ o) ↔ StopsWith b o
+
+-- ---- the number
+
+-- behind some accepted records stands one with the fault n
+pub record FaultyRecord (b : List ℕ) (n : ℕ) : Type 0 where
+  pub passed : List Record
+  pub scheme : Scheme
+  pub rows : List ℕ
+  pub at : ℕ
+  pub accepted : Accepted b passed scheme rows at
+  pub faulty : Faulty b scheme at n
+
+-- the records are accepted to the end, and their scheme has the fault n, or 0
+pub record AcceptedWhole (b : List ℕ) (n : ℕ) : Type 0 where
+  pub passed : List Record
+  pub scheme : Scheme
+  pub rows : List ℕ
+  pub at : ℕ
+  pub accepted : Accepted b passed scheme rows at
+  pub ended : length b ≤ at
+  pub atLast : AtLast scheme n
+
+pub record NumberMeans (b : List ℕ) : Type 0 where
+  pub atMostNine : read b .number ≤ 9
+  pub one : (read b .number ≡ 1) ↔ (65536 < length b)
+  pub twoToSeven : (n : ℕ) → 2 ≤ n → n ≤ 7 → (read b .number ≡ n) ↔ ((length b ≤ 65536) × FaultyRecord b n)
+  pub zero : (read b .number ≡ 0) ↔ ((length b ≤ 65536) × AcceptedWhole b 0)
+  pub eight : (read b .number ≡ 8) ↔ ((length b ≤ 65536) × AcceptedWhole b 8)
+  pub nine : (read b .number ≡ 9) ↔ ((length b ≤ 65536) × AcceptedWhole b 9)
+
+-- ---- the scheme
+
+pub record SchemeWellFormed (b : List ℕ) : Type 0 where
+  pub wellFormed : WellFormed (read b .scheme)
+
+-- ---- the tables and maximal objects of a good book
+
+-- the tables of M: the family of M, each row in range
+pub record TablesOfBook (b : List ℕ) (M : ℕ) : Type 0 where
+  pub familyIs : family (tablesOf b (read b) M) ≡ familyOf (read b .scheme .sets) M
+  pub rowsInRange : (T : Table) → List·Memᴰ T (tablesOf b (read b) M)
+      → (row : Row) → List·Memᴰ row (T .rows) → InRange (read b .scheme .kinds) (T .set) row
+
+-- "M is any maximal object of a book not refused; X, the *wanted columns*, is any non-empty set of attributes of M's
+-- objects."
+pub record GoodBook (b : List ℕ) (M : ℕ) : Type 0 where
+  pub someObjects : SomeObjects (read b .scheme .objects) M
+  pub isAcyclic : acyclic (familyOf (read b .scheme .sets) M) ≡ true
+  pub demand3 : (X : ℕ) → (a : ℕ) × (a ∈ X) → X ⊆ attributesOf (read b .scheme .sets) M
+      → Demand3 (read b .scheme .kinds) (tablesOf b (read b) M) X
+
+pub record MaximalObjectsOfBook (b : List ℕ) : Type 0 where
+  pub good : read b .number ≡ 0 → (M : ℕ) → List·Memᴰ M (maximalOf (read b .scheme)) → GoodBook b M

@@ -1,0 +1,48 @@
+-- What holds of the scheme of any outcome, refused or not.
+-- In order: sets of attributes, the arrays, the scheme.
+-- Assumes nothing.
+use mathlib.Core.Path.{_≡_}
+use mathlib.Core.List.{List, List·Memᴰ}
+use Prim.Native.Nat.{ℕ, _^_, _≤_, _<_}
+use lib.ListN.{length, getD}
+use Rattle.sets.specs.Sets.{_∈_, _∉_, _⊆_, count}
+use Rattle.scheme.specs.declared.Scheme.{Scheme}
+use Rattle.scheme.specs.Dependencies.{Dependency}
+use Rattle.scheme.specs.OfScheme.{dependenciesOf, declaredOf, removedOf}
+use Rattle.scheme.specs.Statements.{SomeObjects}
+
+-- s has an attribute, and its attributes are declared
+pub record SomeAttributes (attributes s : ℕ) : Type 0 where
+  pub filled : (k : ℕ) × (k ∈ s)
+  pub inside : s ⊆ attributes
+
+-- "An object has one to six attributes", all declared
+pub record ObjectSet (attributes s : ℕ) : Type 0 where
+  pub some : SomeAttributes attributes s
+  pub six : count 32 s ≤ 6
+
+-- the arrays are whole, and their counts are within "64 dependencies; 8 records of kind 5 and 8 of kind 6"
+pub record Arrays (s : Scheme) : Type 0 where
+  pub kinds : length (s .kinds) ≡ 32
+  pub sets : length (s .sets) ≡ 32
+  pub left : length (s .left) ≡ 64
+  pub right : length (s .right) ≡ 64
+  pub declared : length (s .declared) ≡ 8
+  pub removed : length (s .removed) ≡ 8
+  pub dependencies : s .dependencies ≤ 64
+  pub declarations : s .declarations ≤ 8
+  pub removals : s .removals ≤ 8
+
+pub record WellFormed (s : Scheme) : Type 0 where
+  pub arrays : Arrays s
+  -- attributes and objects are 0 to 31
+  pub attributesBelow : s .attributes < 2 ^ 32
+  pub objectsBelow : s .objects < 2 ^ 32
+  -- value kinds are 0 to 3
+  pub kindsBelow : (a : ℕ) → getD (s .kinds) a 0 < 4
+  pub objectSets : (k : ℕ) → k ∈ s .objects → ObjectSet (s .attributes) (getD (s .sets) k 0)
+  pub otherSets : (k : ℕ) → k ∉ s .objects → getD (s .sets) k 0 ≡ 0
+  pub sides : (d : Dependency) → List·Memᴰ d (dependenciesOf s)
+      → SomeAttributes (s .attributes) (d .left) × SomeAttributes (s .attributes) (d .right)
+  pub declaredSets : (M : ℕ) → List·Memᴰ M (declaredOf s) → SomeObjects (s .objects) M
+  pub removedSets : (M : ℕ) → List·Memᴰ M (removedOf s) → SomeObjects (s .objects) M

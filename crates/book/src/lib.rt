@@ -1,0 +1,419 @@
+// Reading the bytes of a book: its scheme, where its rows stand, and the number that it is refused with.
+ghost use mathlib.Core.Path.{_≡_};
+ghost use mathlib.Core.Bool.{true};
+ghost use mathlib.Core.List.{List, [], _∷_};
+ghost use Prim.Native.Nat.{ℕ, _<_, _≤_};
+ghost use lib.ListN.{length, getD, drop};
+ghost use Rattle.sets.specs.Sets.{count};
+ghost use Rattle.records.specs.declared.Record.{Record};
+ghost use Rattle.scheme.specs.OfScheme.{maximalOf};
+ghost use Rattle.book.specs.Faults.{firstOf, someNonZero, someOutside, wrongCells};
+ghost use Rattle.book.specs.Faults.{SixAtMost, rowChecks, maximalChecks, faultOf};
+ghost use Rattle.book.specs.Declaring.{nothingDeclared, withAttribute, withObject, withDependency};
+ghost use Rattle.book.specs.Declaring.{withDeclared, withRemoved, declare};
+ghost use Rattle.book.specs.Reading.{isRow, shortFault, records, walkedOf, lastNumber, lastFault, read};
+ghost use Rattle.book.specs.Reading.{bookWith, bookOf, stored};
+use records::Reading;
+use records::Record;
+use scheme::Scheme;
+
+// A byte as a number of 32 bits.
+fn wide(b: u8) -> u32
+    ensures { λ r. ⌜ (r ≡ b) × (r < 256) ⌝ }
+{
+    b as u32
+}
+
+// Whether the cells from a place on are not all zero.
+fn some_nonzero(cells: [u32; 6], from: usize) -> bool
+    ensures { λ r. ⌜ r ≡ someNonZero (drop from cells) ⌝ }
+{
+    let mut i = from;
+    while i < 6 {
+        if cells[i] != 0 {
+            return true;
+        }
+        i += 1;
+    }
+    false
+}
+
+// Whether some attribute of the set has a cell outside the range of its kind.
+fn some_outside(kinds: [u8; 32], set: u32, cells: [u32; 6]) -> bool
+    requires { ⌜ count 32 set ≤ 6 ⌝ }
+    ensures { λ r. ⌜ r ≡ someOutside kinds set cells 32 ⌝ }
+{
+    let mut place: usize = 0;
+    let mut a: usize = 0;
+    while a < 32 {
+        if sets::has(set, a as u32) {
+            if !values::in_range(kinds[a], cells[place]) {
+                return true;
+            }
+            place += 1;
+        }
+        a += 1;
+    }
+    false
+}
+
+// Whether a row of an object with this set has a non-zero cell that is not needed or one outside its range.
+fn wrong_cells(kinds: [u8; 32], set: u32, cells: [u32; 6]) -> bool
+    requires { ⌜ count 32 set ≤ 6 ⌝ }
+    ensures { λ r. ⌜ r ≡ wrongCells kinds set cells ⌝ }
+{
+    if some_nonzero(cells, sets::count(set) as usize) {
+        return true;
+    }
+    some_outside(kinds, set, cells)
+}
+
+// The faults of kinds 1 to 6, each by the paper's order.
+fn attribute_fault(s: Scheme, id: u8, kind: u8) -> u8
+    ensures { λ r. ⌜ r ≡ faultOf s (Record.Attribute id kind) ⌝ }
+{
+    if id > 31 {
+        return 5;
+    }
+    if kind > 3 {
+        return 5;
+    }
+    if sets::has(s.attributes, wide(id)) {
+        return 6;
+    }
+    0
+}
+
+fn object_fault(s: Scheme, number: u8, set: u32) -> u8
+    ensures { λ r. ⌜ r ≡ faultOf s (Record.Object number set) ⌝ }
+{
+    if number > 31 {
+        return 5;
+    }
+    if sets::is_empty(set) {
+        return 5;
+    }
+    if sets::count(set) > 6 {
+        return 5;
+    }
+    if sets::has(s.objects, wide(number)) {
+        return 6;
+    }
+    if !sets::within(set, s.attributes) {
+        return 7;
+    }
+    0
+}
+
+fn dependency_fault(s: Scheme, left: u32, right: u32) -> u8
+    ensures { λ r. ⌜ r ≡ faultOf s (Record.Dependency left right) ⌝ }
+{
+    if s.dependencies >= 64 {
+        return 4;
+    }
+    if sets::is_empty(left) {
+        return 5;
+    }
+    if sets::is_empty(right) {
+        return 5;
+    }
+    if !sets::within(left, s.attributes) {
+        return 7;
+    }
+    if !sets::within(right, s.attributes) {
+        return 7;
+    }
+    0
+}
+
+fn row_fault(s: Scheme, object: u8, cells: [u32; 6]) -> u8
+    requires { ⌜ SixAtMost s ⌝ }
+    ensures { λ r. ⌜ r ≡ firstOf (rowChecks s object cells) ⌝ }
+{
+    if object > 31 {
+        return 5;
+    }
+    if !sets::has(s.objects, wide(object)) {
+        return 7;
+    }
+    let k = object as usize;
+    let set = s.sets[k];
+    if wrong_cells(s.kinds, set, cells) {
+        return 5;
+    }
+    0
+}
+
+// The fault of a kind 5 or 6 of which the book has n before it.
+fn maximal_fault(s: Scheme, n: usize, set: u32) -> u8
+    ensures { λ r. ⌜ r ≡ firstOf (maximalChecks s n set) ⌝ }
+{
+    if n >= 8 {
+        return 4;
+    }
+    if sets::is_empty(set) {
+        return 5;
+    }
+    if !sets::within(set, s.objects) {
+        return 7;
+    }
+    0
+}
+
+// The fault of a whole record, 0 where it has none.
+fn fault(s: Scheme, r: Record) -> u8
+    requires { ⌜ SixAtMost s ⌝ }
+    ensures { λ n. ⌜ n ≡ faultOf s r ⌝ }
+{
+    match r {
+        Record::Attribute { id, kind } => attribute_fault(s, id, kind),
+        Record::Object { number, set } => object_fault(s, number, set),
+        Record::Dependency { left, right } => dependency_fault(s, left, right),
+        Record::Row {
+            object,
+            c0,
+            c1,
+            c2,
+            c3,
+            c4,
+            c5,
+        } => { row_fault(s, object, [c0, c1, c2, c3, c4, c5]) }
+        Record::Declared { set } => maximal_fault(s, s.declarations, set),
+        Record::Removed { set } => maximal_fault(s, s.removals, set),
+        _ => 2,
+    }
+}
+
+// The scheme that nothing is declared in.
+fn nothing_declared() -> Scheme
+    ensures { λ r. ⌜ r ≡ nothingDeclared ⌝ }
+{
+    Scheme {
+        kinds: [0u8; 32],
+        attributes: 0,
+        sets: [0u32; 32],
+        objects: 0,
+        left: [0u32; 64],
+        right: [0u32; 64],
+        dependencies: 0,
+        declared: [0u32; 8],
+        declarations: 0,
+        removed: [0u32; 8],
+        removals: 0,
+    }
+}
+
+// What kinds 1, 2, 3, 5 and 6 add to a scheme.
+fn with_attribute(mut s: Scheme, id: u8, kind: u8) -> Scheme
+    requires { ⌜ id < 32 ⌝ }
+    ensures { λ r. ⌜ r ≡ withAttribute s id kind ⌝ }
+{
+    let i = id as usize;
+    s.kinds[i] = kind;
+    s.attributes = sets::insert(s.attributes, wide(id));
+    s
+}
+
+fn with_object(mut s: Scheme, number: u8, set: u32) -> Scheme
+    requires { ⌜ number < 32 ⌝ }
+    ensures { λ r. ⌜ r ≡ withObject s number set ⌝ }
+{
+    let i = number as usize;
+    s.sets[i] = set;
+    s.objects = sets::insert(s.objects, wide(number));
+    s
+}
+
+fn with_dependency(mut s: Scheme, left: u32, right: u32) -> Scheme
+    requires { ⌜ s .dependencies < 64 ⌝ }
+    ensures { λ r. ⌜ r ≡ withDependency s left right ⌝ }
+{
+    let i = s.dependencies;
+    s.left[i] = left;
+    s.right[i] = right;
+    s.dependencies = i + 1;
+    s
+}
+
+fn with_declared(mut s: Scheme, set: u32) -> Scheme
+    requires { ⌜ s .declarations < 8 ⌝ }
+    ensures { λ r. ⌜ r ≡ withDeclared s set ⌝ }
+{
+    let i = s.declarations;
+    s.declared[i] = set;
+    s.declarations = i + 1;
+    s
+}
+
+fn with_removed(mut s: Scheme, set: u32) -> Scheme
+    requires { ⌜ s .removals < 8 ⌝ }
+    ensures { λ r. ⌜ r ≡ withRemoved s set ⌝ }
+{
+    let i = s.removals;
+    s.removed[i] = set;
+    s.removals = i + 1;
+    s
+}
+
+// What a record without a fault adds to a scheme.
+fn declare(s: Scheme, r: Record) -> Scheme
+    requires { ⌜ faultOf s r ≡ 0 ⌝ }
+    ensures { λ d. ⌜ d ≡ declare s r ⌝ }
+{
+    match r {
+        Record::Attribute { id, kind } => with_attribute(s, id, kind),
+        Record::Object { number, set } => with_object(s, number, set),
+        Record::Dependency { left, right } => with_dependency(s, left, right),
+        Record::Declared { set } => with_declared(s, set),
+        Record::Removed { set } => with_removed(s, set),
+        _ => s,
+    }
+}
+
+// Whether a record is a row.
+fn is_row(r: Record) -> bool
+    ensures { λ b. ⌜ b ≡ isRow r ⌝ }
+{
+    if let Record::Row {
+        object: _,
+        c0: _,
+        c1: _,
+        c2: _,
+        c3: _,
+        c4: _,
+        c5: _,
+    } = r {
+        true
+    } else {
+        false
+    }
+}
+
+// The fault of a body that is cut short, by its kind.
+fn short_fault(kind: u8) -> u8
+    ensures { λ r. ⌜ r ≡ shortFault kind ⌝ }
+{
+    if 1 <= kind && kind <= 6 { 3 } else { 2 }
+}
+
+// What the records of a book come to: the fault of the earliest faulty one, or 0, and what stands before it.
+struct Walked {
+    refusal: u8,
+    rows: usize,
+    scheme: Scheme,
+}
+
+// Reads record after record; the positions of the rows go into the directory while there are cells for them.
+fn walk(bytes: &[u8], directory: &mut [u32]) -> Walked
+    requires { ⌜ length (now bytes) ≤ 65536 ⌝ }
+    ensures { λ r. ⌜ r ≡ walkedOf (records (now (bytes .entry))) ⌝ }
+    ensures { λ r. ⌜ now (directory .exit) ≡ stored (records (now (bytes .entry)) .rows) (now (directory .entry)) ⌝ }
+{
+    let mut scheme = nothing_declared();
+    let mut rows: usize = 0;
+    let mut at: usize = 0;
+    loop {
+        let found = records::read(bytes, at);
+        match found {
+            Reading::Nothing => return Walked {
+                refusal: 0,
+                rows,
+                scheme,
+            },
+            Reading::Unknown => return Walked {
+                refusal: 2,
+                rows,
+                scheme,
+            },
+            Reading::Short(kind) => return Walked {
+                refusal: short_fault(kind),
+                rows,
+                scheme,
+            },
+            Reading::Found(r, next) => {
+                let refusal = fault(scheme, r);
+                if refusal != 0 {
+                    return Walked {
+                        refusal,
+                        rows,
+                        scheme,
+                    };
+                }
+                if is_row(r) {
+                    if rows < directory.len() {
+                        directory[rows] = at as u32;
+                    }
+                    rows += 1;
+                }
+                scheme = declare(scheme, r);
+                at = next;
+            }
+        }
+    }
+}
+
+// A book that was read: the number that it is refused with, or 0, how many rows it has, its scheme, and its maximal
+// objects, with 0 behind them. A refused book has the rows and the scheme of the records before the fault, and maximal
+// objects only where all records were accepted (0, 8 and 9).
+pub struct Book {
+    pub refusal: u8,
+    pub rows: usize,
+    pub scheme: Scheme,
+    pub maximal: [u32; 40],
+    pub maximals: usize,
+}
+
+// A book refused before its end: it has no maximal objects.
+fn stopped(refusal: u8, rows: usize, scheme: Scheme) -> Book
+    ensures { λ r. ⌜ r ≡ bookWith refusal rows scheme [] ⌝ }
+{
+    Book {
+        refusal,
+        rows,
+        scheme,
+        maximal: [0u32; 40],
+        maximals: 0,
+    }
+}
+
+// The fault of a scheme after the last record.
+fn last_fault(unmatched: bool, cyclic: bool) -> u8
+    ensures { λ r. ⌜ r ≡ lastNumber unmatched cyclic ⌝ }
+{
+    if unmatched {
+        return 8;
+    }
+    if cyclic { 9 } else { 0 }
+}
+
+// A book whose records were all accepted: its maximal objects, and the faults of its scheme.
+fn finished(rows: usize, scheme: Scheme) -> Book
+    ensures { λ r. ⌜ r ≡ bookWith (lastFault scheme) rows scheme (maximalOf scheme) ⌝ }
+{
+    let m = scheme::maximal_objects(scheme);
+    let maximal = m.sets;
+    Book {
+        refusal: last_fault(m.unmatched, m.cyclic),
+        rows,
+        scheme,
+        maximal,
+        maximals: m.count,
+    }
+}
+
+// Reads the bytes of a book. The positions of its rows go into the directory, in order, as many as it has cells for;
+// its other cells keep what they held.
+pub fn read(bytes: &[u8], directory: &mut [u32]) -> Book
+    ensures { λ r. ⌜ r ≡ bookOf (read (now (bytes .entry))) ⌝ }
+    ensures { λ r. ⌜ now (directory .exit) ≡ stored (read (now (bytes .entry)) .rows) (now (directory .entry)) ⌝ }
+{
+    if bytes.len() > 65536 {
+        return stopped(1, 0, nothing_declared());
+    }
+    let w = walk(bytes, directory);
+    let scheme = w.scheme;
+    if w.refusal != 0 {
+        return stopped(w.refusal, w.rows, scheme);
+    }
+    finished(w.rows, scheme)
+}

@@ -1,0 +1,70 @@
+-- The starred trials of the paper, in one list under one theorem: what the definitions give beside what the paper says. Those
+-- of queries are not here yet.
+-- In order: the books, the trials.
+-- Assumes nothing.
+use mathlib.Core.Path.{_≡_, refl}
+use mathlib.Core.Bool.{true, false, not, _&&_, _||_}
+use mathlib.Core.List.{List, [], _∷_, _++_, map}
+use Prim.Native.Nat.{ℕ}
+use Rattle.sets.specs.Sets.{bit, has, within, _∩_, _∪_, _∖_, single, isEmpty, rank, count, members}
+use Rattle.values.specs.Values.{inRange}
+use Rattle.records.specs.Fields.{bytes, value, field}
+use Rattle.records.specs.Records.{isKind, bodyLengths, bodyLength, kindOf, bytesOf, bytesOfAll}
+use Rattle.records.specs.Reader.{bodies, recordOf, readFront, readAt}
+use Rattle.records.specs.declared.Record.{Record}
+use Rattle.records.specs.declared.Record.the-variants.{Attribute, Object, Dependency}
+use Rattle.reduction.specs.Kept.{union, around, someHolds, removable, stays, staying, settle, left, acyclic}
+use Rattle.reduction.specs.Kept.{goesFor, goes, keeps, keptOf, kept}
+use Rattle.relation.specs.Tables.{cellOf}
+use Rattle.scheme.specs.Dependencies.{pass, passes, closure}
+use Rattle.scheme.specs.Growing.{familyOf, attributesOf, joins, holding, rounds, grown}
+use Rattle.scheme.specs.MaximalObjects.{computed, isOne, removing, adding, maximalObjects, someUnmatched, someCyclic}
+use Rattle.scheme.specs.OfScheme.{pairs, computedOf, maximalOf, unmatchedOf, cyclicOf}
+use Rattle.book.specs.Faults.{ofBook, firstOf, someNonZero, someOutside, wrongCells, rowChecks, maximalChecks, checks, faultOf}
+use Rattle.book.specs.Declaring.{nothingDeclared, withAttribute, withObject, withDependency, withDeclared, withRemoved, declare}
+use Rattle.book.specs.Reading.{Outcome, isRow, withRow, shortFault, readFrom, records, lastNumber, lastFault, afterLast, read}
+use Rattle.book.specs.Reading.{maximalsOf}
+use Rattle.book.proofs.Examples.{survey, ring}
+
+-- ---- the books
+
+-- "Document 000's banking scheme, seven objects in the order of its example 3": 0 BANK, 1 ACCT, 2 BALANCE, 3 CUST, 4 ADDR,
+-- 5 LOAN, 6 AMT; objects ACCT-BALANCE, ACCT-CUST, ACCT-BANK, CUST-ADDR, CUST-LOAN, LOAN-BANK, LOAN-AMT; dependencies
+-- ACCT to BANK, ACCT to BALANCE, LOAN to AMT, CUST to ADDR
+unfoldable pub banking : List Record
+banking =
+    Attribute 0 0 ∷ Attribute 1 0 ∷ Attribute 2 1 ∷ Attribute 3 0 ∷ Attribute 4 0 ∷ Attribute 5 0 ∷ Attribute 6 1
+    ∷ Object 0 6 ∷ Object 1 10 ∷ Object 2 3 ∷ Object 3 24 ∷ Object 4 40 ∷ Object 5 33 ∷ Object 6 96
+    ∷ Dependency 2 1 ∷ Dependency 2 4 ∷ Dependency 32 64 ∷ Dependency 8 16 ∷ []
+
+-- the number that a book is refused with or 0, and how many objects each maximal object has
+unfoldable pub sizes : List Record → List ℕ
+sizes rs = let o : Outcome = read (bytesOfAll rs) in o .number ∷ map (count 32) (maximalsOf o)
+
+-- ---- the trials
+
+pub record Trial : Type 0 where
+  pub gives : List ℕ
+  pub says : List ℕ
+
+unfoldable pub starred : List Trial
+starred =
+    record { gives = kept 6 (3 ∷ 5 ∷ 9 ∷ []); says = 3 ∷ 5 ∷ [] }  -- "Sacred {1,2} keeps {0,1} and {0,2}."
+    ∷ record { gives = kept 1 (3 ∷ 5 ∷ 9 ∷ []); says = 1 ∷ [] }  -- "Sacred {0} keeps {0}."
+    ∷ record { gives = sizes (banking ++ Dependency 32 1 ∷ []); says = 0 ∷ 4 ∷ 4 ∷ [] }  -- "two maximal objects of four"
+    ∷ record { gives = sizes banking; says = 0 ∷ 4 ∷ 3 ∷ 2 ∷ [] }  -- "Without loan to bank: three, of four, three and two."
+    ∷ record { gives = sizes ring; says = 9 ∷ 3 ∷ [] }  -- "Objects AB, BC, CA with A to B and B to C: 9."
+    ∷ record { gives = sizes (ring ++ Object 3 7 ∷ []); says = 0 ∷ 4 ∷ [] }  -- "With object ABC also: accepted."
+    ∷ record { gives = sizes survey; says = 0 ∷ 3 ∷ [] }  -- the book of the three queries: one maximal object of all three
+    ∷ record { gives = sizes []; says = 0 ∷ [] }  -- an empty book is good
+    ∷ []
+
+pub starred-hold : map (λ t. t .gives) starred ≡ map (λ t. t .says) starred
+unfolding starred banking sizes survey ring read afterLast lastFault lastNumber records readFrom shortFault withRow isRow
+    maximalsOf declare withRemoved withDeclared withDependency withObject withAttribute nothingDeclared faultOf checks
+    maximalChecks rowChecks wrongCells someOutside someNonZero firstOf ofBook cyclicOf unmatchedOf maximalOf computedOf
+    pairs someCyclic someUnmatched maximalObjects adding removing isOne computed grown rounds holding joins attributesOf
+    familyOf closure passes pass cellOf readAt readFront recordOf bodies bytesOfAll bytesOf kindOf bodyLength bodyLengths
+    isKind field value bytes kept keptOf keeps goes goesFor acyclic left settle staying stays removable someHolds around
+    union inRange members rank isEmpty single _∖_ _∪_ _∩_ within has bit
+starred-hold = refl

@@ -1,0 +1,28 @@
+-- `trials::books_trial::push` stays within the slice: it stores only where there is room.
+-- Assumes nothing.
+use native.Mathlib.Omega.{arith}
+use lib.ListN.{length-set}
+use borrow.Author.Needs.{needs}
+use Rattle.trials.proofs.books_trial.push.Statement.{statement}
+use Rattle.trials.proofs.books_trial.push.Tie as tie
+
+returns : tie.Need-returns
+returns c = search needs
+
+slice-write-out : tie.Need-slice-write-out
+slice-write-out c = search needs
+
+add-result : tie.Need-add-result
+add-result c = search needs
+
+same-length : tie.Need-same-length
+same-length c = search needs
+
+returns-2 : tie.Need-returns-2
+returns-2 c = simp length-set (omega arith)
+
+returns-3 : tie.Need-returns-3
+returns-3 c = search needs
+
+pub push-spec : {M : Type 1} → statement M
+push-spec = tie.close (tie.spec returns slice-write-out add-result same-length returns-2 returns-3)
