@@ -27,9 +27,9 @@ use Rattle.book.specs.Declaring.{withRemoved, declare}
 use Rattle.book.specs.Reading.{Outcome, isRow, withRow, shortFault, readFrom, records, lastFault, afterLast}
 use Rattle.book.specs.Reading.{lastNumber, read, maximalsOf}
 
--- ---- the unit's book: "attributes 0 STATION, 1 LEAD, 2 TRIP (names), 3 DEPTH (length); objects 0 {0,1}, 1 {0,2}, 2 {0,3};
--- dependencies {0} to {2} and {0} to {3}. Rows: object 0 (10,501) (11,502) (12,503); object 1 (10,7) (11,7) (13,7); object 2
--- (10,-2500) (12,-900)."
+-- ---- the unit's book: "attributes 0 STATION, 1 LEAD, 2 TRIP (names), 3 DEPTH (length); objects 0 {0,1}, 1 {0,2}, 2
+-- {0,3}; dependencies {0} to {2} and {0} to {3}. Rows: object 0 (10,501) (11,502) (12,503); object 1 (10,7) (11,7) (13,7);
+-- object 2 (10,-2500) (12,-900)."
 
 unfoldable pub survey : List Record
 survey =
@@ -90,11 +90,11 @@ trials =
     ∷ []
 
 pub trials-hold : map (λ t. t .gives) trials ≡ map (λ t. t .says) trials
-unfolding trials survey ring angles eight result read afterLast lastFault lastNumber records readFrom shortFault withRow isRow
-    maximalsOf declare withRemoved withDeclared withDependency withObject withAttribute nothingDeclared faultOf checks
-    maximalChecks rowChecks wrongCells someOutside someNonZero firstOf ofBook cyclicOf unmatchedOf maximalOf computedOf
-    pairs someCyclic someUnmatched maximalObjects adding removing isOne computed grown rounds holding joins attributesOf
-    familyOf closure passes pass cellOf readAt readFront recordOf bodies bytesOfAll bytesOf kindOf bodyLength bodyLengths
-    isKind field value bytes keptOf keeps goes goesFor acyclic left settle staying stays removable someHolds around union
-    inRange members rank isEmpty single _∖_ _∪_ _∩_ within has bit
+unfolding trials survey ring angles eight result read afterLast lastFault lastNumber records readFrom shortFault
+    withRow isRow maximalsOf declare withRemoved withDeclared withDependency withObject withAttribute nothingDeclared
+    faultOf checks maximalChecks rowChecks wrongCells someOutside someNonZero firstOf ofBook cyclicOf unmatchedOf
+    maximalOf computedOf pairs someCyclic someUnmatched maximalObjects adding removing isOne computed grown rounds
+    holding joins attributesOf familyOf closure passes pass cellOf readAt readFront recordOf bodies bytesOfAll bytesOf
+    kindOf bodyLength bodyLengths isKind field value bytes keptOf keeps goes goesFor acyclic left settle staying stays
+    removable someHolds around union inRange members rank isEmpty single _∖_ _∪_ _∩_ within has bit
 trials-hold = refl

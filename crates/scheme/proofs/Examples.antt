@@ -10,7 +10,7 @@ use Rattle.reduction.specs.Kept.{union, around, someHolds, removable, stays, st
 use Rattle.reduction.specs.Kept.{goesFor, goes, keeps, keptOf}
 use Rattle.scheme.specs.Dependencies.{Dependency, pass, passes, closure}
 use Rattle.scheme.specs.Growing.{familyOf, attributesOf, joins, holding, rounds, grown}
-use Rattle.scheme.specs.MaximalObjects.{computed, isOne, removing, adding, maximalObjects, someUnmatched}
+use Rattle.scheme.specs.MaximalObjects.{computed, isOne, removing, adding, maximalObjects}
 use Rattle.scheme.specs.MaximalObjects.{someCyclic}
 
 -- ---- document 000's banking scheme. Attributes: 0 BANK, 1 ACCT, 2 BALANCE, 3 CUST, 4 ADDR, 5 LOAN, 6 AMT

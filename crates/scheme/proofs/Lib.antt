@@ -4,6 +4,7 @@ pub mod Closing
 pub mod Growing
 pub mod Lists
 pub mod KeptOrder
+pub mod Removals
 pub mod MaximalObjects
 pub mod Packing
 pub mod Loops

@@ -14,7 +14,7 @@ use Rattle.scheme.specs.MaximalObjects.{isOne, removing, adding}
 use Rattle.scheme.specs.OfScheme.{listed, setsOf, HasRoom}
 use Rattle.scheme.specs.declared.ObjectList.{ObjectList}
 use Rattle.scheme.proofs.Lists.{drop-at}
-use Rattle.scheme.proofs.MaximalObjects.{leaving, removing-by, adding-there, adding-new}
+use Rattle.scheme.proofs.Removals.{leaving, removing-by, adding-there, adding-new}
 use Rattle.scheme.proofs.Packing.{Listing, listing-more, listing-same, listing-take, listed-listing}
 use Rattle.scheme.proofs.Packing.{listing-listed}
 

@@ -27,7 +27,8 @@ use Rattle.scheme.specs.MaximalObjects.{someCyclic}
 use Rattle.scheme.specs.OfScheme.{pairs, listed, setsOf, HasRoom, declaredOf, removedOf, computedOf, maximalOf}
 use Rattle.scheme.specs.OfScheme.{unmatchedOf, cyclicOf, maximalListOf}
 use Rattle.scheme.proofs.Growing.{of-map, grown-lt}
-use Rattle.scheme.proofs.MaximalObjects.{length-computed, length-removing, length-adding}
+use Rattle.scheme.proofs.Removals.{length-removing, length-adding}
+use Rattle.scheme.proofs.MaximalObjects.{length-computed}
 use Rattle.scheme.proofs.Packing.{Listing, packed-listing, listing-take, listed-listing}
 use Rattle.scheme.proofs.Loops.{length-given}
 

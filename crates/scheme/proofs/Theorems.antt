@@ -11,8 +11,8 @@ use Rattle.scheme.specs.Statements.{Addition}
 use Rattle.scheme.specs.Statements.{UnmatchedFault, CyclicFault, MaximalObjectList}
 use Rattle.scheme.proofs.Closing.{closure-least, closure-mono}
 use Rattle.scheme.proofs.Growing.{grown-least, grown-in-every-order}
-use Rattle.scheme.proofs.MaximalObjects.{computed-list, removal, addition, unmatched-fault, cyclic-fault}
-use Rattle.scheme.proofs.MaximalObjects.{maximal-object-list}
+use Rattle.scheme.proofs.Removals.{removal, addition, unmatched-fault, cyclic-fault}
+use Rattle.scheme.proofs.MaximalObjects.{computed-list, maximal-object-list}
 
 -- ---- the closure
 

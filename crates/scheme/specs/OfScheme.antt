@@ -1,5 +1,5 @@
 -- What a scheme by value says: its lists are the arrays up to their counts.
--- In order: dependencies, declared and removed ones, the lists and faults of a scheme, what the code returns.
+-- In order: its lists and faults, as the code has them.
 -- Assumes nothing.
 use mathlib.Core.Path.{_≡_}
 use mathlib.Core.Bool.{Bool}
@@ -12,6 +12,8 @@ use Rattle.scheme.specs.declared.ObjectList.{ObjectList}
 use Rattle.scheme.specs.declared.MaximalList.{MaximalList}
 use Rattle.scheme.specs.Dependencies.{Dependency}
 use Rattle.scheme.specs.MaximalObjects.{computed, maximalObjects, someUnmatched, someCyclic}
+
+-- ---- its lists and faults
 
 -- the first n dependencies of two arrays of sides
 unfoldable pub pairs : ℕ → List ℕ → List ℕ → List Dependency

@@ -4,6 +4,7 @@
 -- Assumes nothing.
 use mathlib.Core.Path.{_≡_}
 use mathlib.Core.Bool.{true, false}
+use mathlib.Core.Logic.{_⊎_}
 use mathlib.Core.List.{List, [], _∷_, _++_, List·Memᴰ}
 use Prim.Native.Nat.{ℕ, _+_, _^_, _≤_, _<_}
 use lib.ListN.{length}
@@ -74,7 +75,9 @@ pub record Addition (l declared : List ℕ) : Type 0 where
   pub ends : List ℕ
   pub atTheEnd : adding l declared ≡ l ++ ends
   pub ordered : LeavesOut ends declared
+  pub stays : (s : ℕ) → List·Memᴰ s l → List·Memᴰ s (adding l declared)
   pub there : (s : ℕ) → List·Memᴰ s declared → List·Memᴰ s (adding l declared)
+  pub fromEither : (s : ℕ) → List·Memᴰ s (adding l declared) → List·Memᴰ s l ⊎ List·Memᴰ s declared
   pub noneTwice : NoneTwice l → NoneTwice (adding l declared)
 
 -- ---- the two faults

@@ -5,7 +5,7 @@ use mathlib.Core.Path.{sym}
 use lib.ListN.{length}
 use borrow.Author.Tests.{eq-eqb, ne-eqb}
 use Rattle.scheme.proofs.Lists.{NoneSoFar, none-start, none-found, none-next, none-end}
-use Rattle.scheme.proofs.MaximalObjects.{isOne-asks}
+use Rattle.scheme.proofs.Removals.{isOne-asks}
 use borrow.Author.Needs.{needs}
 use Rattle.scheme.proofs.is_one.Statement.{statement}
 use Rattle.scheme.proofs.is_one.Tie as tie

@@ -4,7 +4,7 @@ use Prim.Native.Nat.{_-_}
 use mathlib.Core.Path.{sym, _∙_}
 use lib.ListN.{length}
 use Rattle.scheme.proofs.Lists.{NoneSoFar, none-start, none-found, none-next, none-end}
-use Rattle.scheme.proofs.MaximalObjects.{cyclic-asks}
+use Rattle.scheme.proofs.Removals.{cyclic-asks}
 use borrow.Author.Needs.{needs}
 use Rattle.scheme.proofs.some_cyclic.Statement.{statement}
 use Rattle.scheme.proofs.some_cyclic.Tie as tie

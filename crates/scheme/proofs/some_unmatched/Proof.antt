@@ -5,7 +5,7 @@ use mathlib.Core.Path.{sym, ap, _∙_}
 use mathlib.Core.Bool.{not}
 use lib.ListN.{length}
 use Rattle.scheme.proofs.Lists.{NoneSoFar, none-start, none-found, none-next, none-end}
-use Rattle.scheme.proofs.MaximalObjects.{unmatched-asks}
+use Rattle.scheme.proofs.Removals.{unmatched-asks}
 use borrow.Author.Needs.{needs}
 use Rattle.scheme.proofs.some_unmatched.Statement.{statement}
 use Rattle.scheme.proofs.some_unmatched.Tie as tie
