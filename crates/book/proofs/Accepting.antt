@@ -1,26 +1,23 @@
 -- Laws of accepted records: what holds at the position behind them, and that reading from there is reading the book.
 -- In order: the position, reading from there on, where reading stops.
 -- Assumes nothing.
-use mathlib.Core.Path.{_≡_, refl, sym, ap, ap₂, _∙_, subst}
+use mathlib.Core.Path.{_≡_, refl, sym, ap, _∙_}
 use mathlib.Core.Bool.{Bool, true, false}
 use mathlib.Core.List.{List, [], _∷_, _++_}
 use Prim.Native.Nat.{ℕ, zero, suc, _+_, _-_, _≤_, _<_}
-use native.Mathlib.Numerals.{add-one}
 use native.Mathlib.Omega.{arith}
 use borrow.Author.Tests.{eq-eqb, ne-eqb}
-use lib.Dec.{eqb}
-use lib.ListN.{length, getD, length-append}
+use lib.ListN.{length, length-append}
 use mathlib.Core.Logic.{⊎-elim}
 use Rattle.sets.proofs.Tests.{yes-or-no}
-use Rattle.records.specs.Reader.{readAt, Whole}
+use Rattle.records.specs.Reader.{readAt}
 use Rattle.records.specs.declared.Record.{Record}
-use Rattle.records.specs.declared.Reading.{Reading}
 use Rattle.records.specs.declared.Reading.the-variants.{Nothing, Unknown, Short, Found}
 use Rattle.records.proofs.Reader.{whole-readAt, found-after}
 use Rattle.scheme.specs.declared.Scheme.{Scheme}
 use Rattle.book.specs.Faults.{faultOf}
-use Rattle.book.specs.Declaring.{nothingDeclared, declare}
-use Rattle.book.specs.Reading.{Outcome, isRow, withRow, shortFault, readFrom, records}
+use Rattle.book.specs.Declaring.{declare}
+use Rattle.book.specs.Reading.{isRow, withRow, shortFault, readFrom, records}
 use Rattle.book.specs.Accepting.{Accepted, none, one}
 
 -- ---- the position

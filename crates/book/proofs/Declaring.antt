@@ -1,7 +1,7 @@
 -- What a record without a fault has, by its kind, and records by their variant.
--- In order: what a fault of 0 says, the variants that add nothing, rows.
+-- In order: what a fault of 0 says, the variants that add nothing, rows, the kinds of a query, bodies cut short.
 -- Assumes nothing.
-use mathlib.Core.Path.{_≡_, refl, ap, ap₂, sym}
+use mathlib.Core.Path.{_≡_, refl, ap, ap₂, sym, _∙_}
 use mathlib.Core.Bool.{Bool, true, false, not, _&&_, _||_}
 use mathlib.Core.List.{List, [], _∷_}
 use Prim.Native.Nat.{ℕ, _≤_, _<_}
@@ -12,9 +12,12 @@ use lib.ListN.{getD}
 use types.Run.{OneOf, miss}
 use denote.Enum.Declared.{tagOf}
 use Rattle.records.proofs.Record.{the-type}
+use Rattle.records.proofs.Reading as ReadingType
+use Rattle.records.specs.declared.Reading.{Reading}
+use Rattle.records.specs.declared.Reading.the-variants.{Nothing, Unknown, Short, Found}
 use Rattle.records.specs.declared.Record.{Record}
-use Rattle.records.specs.declared.Record.the-variants.{Attribute, Object, Dependency, Row, Declared, Removed}
-use Rattle.records.specs.declared.Record.the-variants.{Item, CompareTwo, CompareConstant, End}
+use Rattle.records.specs.declared.Record.the-variants.{Attribute, Object, Dependency, Row, Declared, Removed, Item}
+use Rattle.records.specs.declared.Record.the-variants.{CompareTwo, CompareConstant, End}
 use Rattle.scheme.specs.declared.Scheme.{Scheme}
 use Rattle.scheme.specs.Statements.{SomeObjects}
 use Rattle.sets.specs.Sets.{_∈_, _∉_, has, within, isEmpty, count}
@@ -22,11 +25,15 @@ use Rattle.sets.proofs.Tests.{and-yes, no-or}
 use Rattle.sets.proofs.Sets.{yes-has, no-has, yes-within, no-isEmpty}
 use Rattle.book.specs.Faults.{ofBook, firstOf, wrongCells, rowChecks, maximalChecks, checks, faultOf}
 use Rattle.book.specs.Declaring.{declare}
-use Rattle.book.specs.Reading.{isRow, shortFault}
+use Rattle.book.specs.Reading.{isRow, shortFault, stopNumber}
 use Rattle.book.specs.WellFormed.{SomeAttributes}
 use Rattle.book.proofs.Faults.{none-first}
 
 -- ---- what a fault of 0 says of a record, by its kind
+
+-- the code has the record by its variant
+pub same-fault : (s : Scheme) {r q : Record} → r ≡ q → faultOf s r ≡ 0 → faultOf s q ≡ 0
+same-fault s e f = ap (faultOf s) (sym e) ∙ f
 
 pub record NewAttribute (s : Scheme) (id kind : ℕ) : Type 0 where
   pub below : id < 32
@@ -193,3 +200,12 @@ pub short-high : (k : ℕ) → 1 ≤ k → 6 < k → 2 ≡ shortFault k
 unfolding shortFault ofBook
 short-high k h l =
     ap₂ (λ (b c : Bool). elim (b && c) [ true ↦ 3 | false ↦ 2 ]) (sym (le-leb 1 k h)) (sym (lt-leb k 6 l))
+
+-- ---- where no whole record stands
+
+pub stops-at-end : (x : Reading) → OneOf (0 ∷ 3 ∷ []) (tagOf ReadingType.the-type x) → 0 ≡ stopNumber x
+unfolding stopNumber
+stops-at-end Nothing h = refl
+stops-at-end Unknown h = absurd (miss (0 ∷ 3 ∷ []) 1 tt h)
+stops-at-end (Short k) h = absurd (miss (0 ∷ 3 ∷ []) 2 tt h)
+stops-at-end (Found r next) h = refl

@@ -2,14 +2,13 @@
 -- In order: the unit's book, three objects in a ring, small books, the trials.
 -- Assumes nothing.
 use mathlib.Core.Path.{_≡_, refl}
-use mathlib.Core.Bool.{true, false, not, _&&_, _||_}
 use mathlib.Core.List.{List, [], _∷_, _++_, map}
 use Prim.Native.Nat.{ℕ}
 use lib.ListN.{length}
-use Rattle.sets.specs.Sets.{bit, has, within, _∩_, _∪_, _∖_, single, isEmpty, rank, count, members}
+use Rattle.sets.specs.Sets.{bit, has, within, _∩_, _∪_, _∖_, single, isEmpty, rank, members}
 use Rattle.values.specs.Values.{inRange}
-use Rattle.reduction.specs.Kept.{union, around, someHolds, removable, stays, staying, settle, left, acyclic}
-use Rattle.reduction.specs.Kept.{goesFor, goes, keeps, keptOf}
+use Rattle.reduction.specs.Kept.{union, around, someHolds, removable, stays, staying, settle, left, acyclic, goesFor}
+use Rattle.reduction.specs.Kept.{goes, keeps, keptOf}
 use Rattle.records.specs.Fields.{bytes, value, field}
 use Rattle.records.specs.Records.{isKind, bodyLengths, bodyLength, kindOf, bytesOf, bytesOfAll}
 use Rattle.records.specs.Reader.{bodies, recordOf, readFront, readAt}
@@ -28,8 +27,8 @@ use Rattle.book.specs.Reading.{Outcome, isRow, withRow, shortFault, read
 use Rattle.book.specs.Reading.{lastNumber, read, maximalsOf}
 
 -- ---- the unit's book: "attributes 0 STATION, 1 LEAD, 2 TRIP (names), 3 DEPTH (length); objects 0 {0,1}, 1 {0,2}, 2
--- {0,3}; dependencies {0} to {2} and {0} to {3}. Rows: object 0 (10,501) (11,502) (12,503); object 1 (10,7) (11,7) (13,7);
--- object 2 (10,-2500) (12,-900)."
+-- {0,3}; dependencies {0} to {2} and {0} to {3}. Rows: object 0 (10,501) (11,502) (12,503); object 1 (10,7) (11,7)
+-- (13,7); object 2 (10,-2500) (12,-900)."
 
 unfoldable pub survey : List Record
 survey =

@@ -3,36 +3,36 @@
 -- Assumes nothing.
 use mathlib.Core.Path.{_≡_, refl, sym, ap, ap₂, _∙_, subst}
 use mathlib.Core.Bool.{Bool, true, false, _&&_}
-use mathlib.Core.Logic.{_⊎_, inl, inr, ⊎-elim, _↔_}
+use mathlib.Core.Logic.{_⊎_, inl, inr, ⊎-elim}
 use mathlib.Core.List.{List, [], _∷_, _++_}
 use Prim.Native.Nat.{ℕ, zero, suc, _+_, _-_, _≤_, _<_}
 use native.Mathlib.Omega.{arith}
-use borrow.Author.Tests.{leb-true, leb-false, le-leb, lt-leb, eq-eqb, ne-eqb, lt-ltb, le-ltb}
-use lib.Dec.{leb, eqb, ltb}
+use borrow.Author.Tests.{leb-false, le-leb, lt-leb, eq-eqb, ne-eqb, lt-ltb, le-ltb}
+use lib.Dec.{leb}
 use lib.ListN.{length, getD}
 use Rattle.sets.proofs.Tests.{yes-or-no, yes-no, no-and}
 use Rattle.sets.proofs.Numbers.{eq-or-ne, lt-or-le}
 use Rattle.records.specs.Records.{isKind, kindOf}
-use Rattle.records.specs.Reader.{readAt, NoKind, CutShort, Whole}
+use Rattle.records.specs.Reader.{readAt}
 use Rattle.records.specs.declared.Record.{Record}
-use Rattle.records.specs.declared.Record.the-variants.{Attribute, Object, Dependency, Row, Declared, Removed}
-use Rattle.records.specs.declared.Record.the-variants.{Item, CompareTwo, CompareConstant, End}
+use Rattle.records.specs.declared.Record.the-variants.{Attribute, Object, Dependency, Row, Declared, Removed, Item}
+use Rattle.records.specs.declared.Record.the-variants.{CompareTwo, CompareConstant, End}
 use Rattle.records.specs.declared.Reading.{Reading}
 use Rattle.records.specs.declared.Reading.the-variants.{Nothing, Unknown, Short, Found}
-use Rattle.records.proofs.Reader.{readAt-nothing, readAt-short, readAt-whole}
-use Rattle.records.proofs.Reader.{nothing-readAt, unknown-readAt, short-readAt, whole-readAt, found-after}
+use Rattle.records.proofs.Reader.{readAt-nothing, readAt-short, readAt-whole, nothing-readAt, unknown-readAt}
+use Rattle.records.proofs.Reader.{short-readAt, whole-readAt, found-after}
 use Rattle.scheme.specs.declared.Scheme.{Scheme}
 use Rattle.scheme.specs.OfScheme.{unmatchedOf, cyclicOf}
 use Rattle.book.specs.Faults.{ofBook, firstOf, checks, faultOf}
 use Rattle.book.specs.Declaring.{nothingDeclared, declare}
 use Rattle.book.specs.Reading.{Outcome, withRow, shortFault, readFrom, records, lastFault, afterLast, read}
 use Rattle.book.specs.Reading.{lastNumber}
-use Rattle.book.specs.Accepting.{Accepted, none, one, Faulty, notAllowed, cutShort, wrong}
-use Rattle.book.specs.Accepting.{AtLast, unmatched, cyclic, good, Stops, faulty, atEnd}
+use Rattle.book.specs.Accepting.{Accepted, none, one, Faulty, notAllowed, cutShort, wrong, AtLast, unmatched}
+use Rattle.book.specs.Accepting.{cyclic, good, Stops, faulty, atEnd}
 use Rattle.book.specs.Statements.{StopsWith, FaultyRecord, AcceptedWhole}
 use Rattle.book.proofs.Conditions.{fault-between}
-use Rattle.book.proofs.Accepting.{from-nothing, from-unknown, from-short, from-found, from-faulty}
-use Rattle.book.proofs.Accepting.{stops-nothing, stops-unknown, stops-short, stops-faulty}
+use Rattle.book.proofs.Accepting.{from-nothing, from-unknown, from-short, from-found, from-faulty, stops-nothing}
+use Rattle.book.proofs.Accepting.{stops-unknown, stops-short, stops-faulty}
 
 -- ---- kinds of a book
 

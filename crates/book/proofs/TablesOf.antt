@@ -3,26 +3,23 @@
 -- Assumes nothing.
 use mathlib.Core.Path.{_≡_, refl, sym, ap, _∙_, subst}
 use mathlib.Core.Bool.{Bool, true, false}
-use mathlib.Core.Logic.{_⊎_, inl, inr, ⊎-elim}
-use mathlib.Core.List.{List, [], _∷_, _++_, map, map-map, List·Memᴰ, List·Memᴰ·not-nil, List·Memᴰ·append-cases}
-use mathlib.Core.List.{List·Memᴰ·head, List·Memᴰ·tail, List·Memᴰ·eq-of-singleton, Memᴰ·of-map}
-use Prim.Native.Nat.{ℕ, _^_, _≤_, _<_}
-use native.Mathlib.Omega.{arith}
+use mathlib.Core.Logic.{_⊎_, ⊎-elim}
+use mathlib.Core.List.{List, [], _∷_, map-map, List·Memᴰ, List·Memᴰ·not-nil, List·Memᴰ·append-cases, List·Memᴰ·head}
+use mathlib.Core.List.{List·Memᴰ·tail, List·Memᴰ·eq-of-singleton, Memᴰ·of-map}
+use Prim.Native.Nat.{ℕ}
 use borrow.Author.Tests.{eqb-true}
 use lib.Dec.{eqb}
-use lib.ListN.{length, getD, drop, set}
+use lib.ListN.{getD, drop, set}
 use lib.Seq.{getD-set-other}
-use Rattle.sets.specs.Sets.{_∈_, _∉_, _⊆_, insert, single, count, members}
+use Rattle.sets.specs.Sets.{_∈_, single, count, members}
 use Rattle.sets.proofs.Tests.{no-or}
 use Rattle.sets.proofs.Bits.{in-out, member-lt}
 use Rattle.sets.proofs.Sets.{∪-left}
-use Rattle.sets.proofs.Members.{members-only}
 use Rattle.values.specs.Values.{inRange}
 use Rattle.records.specs.Reader.{readAt}
 use Rattle.records.specs.declared.Record.{Record}
-use Rattle.records.specs.declared.Record.the-variants.{Attribute, Object, Dependency, Row, Declared, Removed}
-use Rattle.records.specs.declared.Record.the-variants.{Item, CompareTwo, CompareConstant, End}
-use Rattle.records.specs.declared.Reading.{Reading}
+use Rattle.records.specs.declared.Record.the-variants.{Attribute, Object, Dependency, Row, Declared, Removed, Item}
+use Rattle.records.specs.declared.Record.the-variants.{CompareTwo, CompareConstant, End}
 use Rattle.records.specs.declared.Reading.the-variants.{Found}
 use Rattle.relation.specs.Tables as Tables
 use Rattle.relation.specs.Tables.{Table, cellOf, family}
@@ -34,8 +31,8 @@ use Rattle.book.specs.Reading.{Outcome, isRow, withRow}
 use Rattle.book.specs.Accepting.{Accepted, none, one}
 use Rattle.book.specs.WellFormed.{WellFormed}
 use Rattle.book.specs.TablesOf.{cellsOf, rowOf, rowsOf, tablesOf, InRange}
-use Rattle.book.proofs.Declaring.{NewAttribute, NewObject, KnownRow}
-use Rattle.book.proofs.Declaring.{attribute-accepted, object-accepted, row-accepted}
+use Rattle.book.proofs.Declaring.{NewAttribute, NewObject, KnownRow, attribute-accepted, object-accepted}
+use Rattle.book.proofs.Declaring.{row-accepted}
 use Rattle.book.proofs.Conditions.{unneeded-zero, outside-no}
 use Rattle.book.proofs.WellFormed.{accepted-well-formed}
 

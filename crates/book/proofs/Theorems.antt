@@ -13,18 +13,16 @@ use Rattle.reduction.specs.Steps.{Family}
 use Rattle.reduction.specs.Kept.{union}
 use Rattle.reduction.specs.Statements.{OfAttributes}
 use Rattle.records.specs.declared.Record.{Record}
-use Rattle.relation.specs.Tables.{family}
 use Rattle.relation.proofs.Theorems.{demand3}
 use Rattle.scheme.specs.declared.Scheme.{Scheme}
-use Rattle.scheme.specs.Growing.{familyOf, attributesOf}
+use Rattle.scheme.specs.Growing.{attributesOf}
 use Rattle.scheme.specs.OfScheme.{maximalOf, cyclicOf}
 use Rattle.scheme.proofs.Theorems.{cyclic-is-a-fault}
 use Rattle.book.specs.Reading.{Outcome, read}
 use Rattle.book.specs.Accepting.{Accepted, none, AtLast, good}
 use Rattle.book.specs.Conditions.{First, conditions}
-use Rattle.book.specs.Statements.{FaultMeans, ReadExactly, StopsWith, NumberMeans, AcceptedWhole}
-use Rattle.book.specs.Statements.{SchemeWellFormed}
-use Rattle.book.specs.Statements.{TablesOfBook, GoodBook, MaximalObjectsOfBook}
+use Rattle.book.specs.Statements.{FaultMeans, ReadExactly, StopsWith, NumberMeans, SchemeWellFormed, TablesOfBook}
+use Rattle.book.specs.Statements.{MaximalObjectsOfBook}
 use Rattle.book.specs.TablesOf.{tablesOf}
 use Rattle.book.proofs.Conditions.{fault-first, first-fault}
 use Rattle.book.proofs.Outcomes.{read-over, read-stops, stops-read, number-at-most, number-over, number-not-one}

@@ -3,24 +3,28 @@
 -- In order: the start, what the code needs of it, a turn, the ways out.
 -- Assumes nothing.
 use mathlib.Core.Path.{_≡_, refl, sym, ap, ap₂, _∙_, subst}
-use mathlib.Core.Bool.{Bool, true, false}
+use mathlib.Core.Bool.{true, false}
 use mathlib.Core.List.{List, [], _∷_, _++_}
 use Prim.Native.Nat.{ℕ, _+_, _≤_, _<_}
 use native.Mathlib.Omega.{arith}
 use lib.ListN.{length, set, length-append}
+use types.Run.{OneOf, miss}
+use denote.Enum.Declared.{tagOf}
+use Rattle.records.proofs.Reading.{the-type}
 use Rattle.records.specs.Reader.{readAt}
 use Rattle.records.specs.declared.Record.{Record}
+use Rattle.records.specs.declared.Reading.{Reading}
 use Rattle.records.specs.declared.Reading.the-variants.{Nothing, Unknown, Short, Found}
 use Rattle.scheme.specs.declared.Scheme.{Scheme}
 use Rattle.book.specs.Faults.{SixAtMost, faultOf}
 use Rattle.book.specs.Declaring.{nothingDeclared, declare}
-use Rattle.book.specs.Reading.{Outcome, isRow, withRow, shortFault, records, walkedOf, stored}
+use Rattle.book.specs.Reading.{Outcome, isRow, withRow, stopNumber, records, walkedOf, stored}
 use Rattle.book.specs.Accepting.{Accepted, none, one}
 use Rattle.book.specs.declared.Walked.{Walked}
 use Rattle.book.proofs.WellFormed.{accepted-well-formed, well-formed-six}
 use Rattle.book.proofs.Lists.{stored-none, length-stored, stored-one, stored-full}
-use Rattle.book.proofs.Accepting.{accepted-inside, accepted-rows, withRow-yes, withRow-no}
-use Rattle.book.proofs.Accepting.{stops-nothing, stops-unknown, stops-short, stops-faulty}
+use Rattle.book.proofs.Accepting.{accepted-inside, accepted-rows, withRow-yes, withRow-no, stops-nothing}
+use Rattle.book.proofs.Accepting.{stops-unknown, stops-short, stops-faulty}
 
 pub record Walking (b dir₀ dir : List ℕ) (s : Scheme) (rows at : ℕ) : Type 0 where
   pub passed : List Record
@@ -100,31 +104,25 @@ module _ {b dir₀ dir : List ℕ} {s : Scheme} {rows at : ℕ} (v : Walking b d
     v .kept ∙ ap (λ (o : Outcome). stored (o .rows) dir₀) (sym e),
   )
 
-  pub walking-ended : readAt b at ≡ Nothing
-      → (_≡_ {A = Walked} (record { refusal = 0; rows = rows; scheme = s }) (walkedOf (records b)))
-      × (dir ≡ stored (records b .rows) dir₀)
-  walking-ended e = walking-out 0 (stops-nothing (v .accepted) e)
+  renumbered : {n m : ℕ} → records b ≡ record { number = m; scheme = s; rows = v .places } → n ≡ m
+      → records b ≡ record { number = n; scheme = s; rows = v .places }
+  renumbered e q = e ∙ ap {B = Outcome} (λ (k : ℕ). record { number = k; scheme = s; rows = v .places }) (sym q)
 
-  pub walking-unknown : readAt b at ≡ Unknown
-      → (_≡_ {A = Walked} (record { refusal = 2; rows = rows; scheme = s }) (walkedOf (records b)))
-      × (dir ≡ stored (records b .rows) dir₀)
-  walking-unknown e = walking-out 2 (stops-unknown (v .accepted) e)
-
-  pub walking-short : {k n : ℕ} → readAt b at ≡ Short k → n ≡ shortFault k
+  -- no whole record stands there
+  pub walking-unread : {n : ℕ} (x : Reading) → readAt b at ≡ x → OneOf (0 ∷ 1 ∷ 2 ∷ []) (tagOf the-type x) → n ≡
+      stopNumber x
       → (_≡_ {A = Walked} (record { refusal = n; rows = rows; scheme = s }) (walkedOf (records b)))
       × (dir ≡ stored (records b .rows) dir₀)
-  walking-short {n = n} e q =
-      walking-out n
-      (stops-short (v .accepted) e
-      ∙ ap {B = Outcome} (λ (m : ℕ). record { number = m; scheme = s; rows = v .places }) (sym q))
+  unfolding stopNumber
+  walking-unread {n} Nothing e k q = walking-out n (renumbered (stops-nothing (v .accepted) e) q)
+  walking-unread {n} Unknown e k q = walking-out n (renumbered (stops-unknown (v .accepted) e) q)
+  walking-unread {n} (Short kind) e k q = walking-out n (renumbered (stops-short (v .accepted) e) q)
+  walking-unread (Found r next) e k q = absurd (miss (0 ∷ 1 ∷ 2 ∷ []) 3 tt k)
 
   pub walking-faulty : {r : Record} {next n : ℕ} → readAt b at ≡ Found r next → n ≡ faultOf s r → (n ≡ 0 → ⊥)
       → (_≡_ {A = Walked} (record { refusal = n; rows = rows; scheme = s }) (walkedOf (records b)))
       × (dir ≡ stored (records b .rows) dir₀)
-  walking-faulty {n = n} e q d =
-      walking-out n
-      (stops-faulty (v .accepted) e (λ z. d (q ∙ z))
-      ∙ ap {B = Outcome} (λ (m : ℕ). record { number = m; scheme = s; rows = v .places }) (sym q))
+  walking-faulty {n = n} e q d = walking-out n (renumbered (stops-faulty (v .accepted) e (λ z. d (q ∙ z))) q)
 
 -- the same of a directory, a scheme and a count that are equal to these
 pub walking-as : {b dir₀ dir d : List ℕ} {s t : Scheme} {rows at n : ℕ} → Walking b dir₀ dir s rows at → d ≡ dir → t ≡ s

@@ -10,15 +10,15 @@ use Prim.Native.Nat.{ℕ, zero, suc, _+_, _^_, _≤_, _<_}
 use native.Mathlib.Nat.{le-of-suc-le-suc, not-suc-le-zero, lt-of-le-of-lt}
 use native.Mathlib.Numerals.{add-one, add-one-le}
 use native.Mathlib.Omega.{arith}
-use lib.ListN.{length, getD, take, set, length-set, length-replicate}
+use lib.ListN.{length, getD, take, set, length-set}
 use lib.Seq.{take-suc-set, getD-set-same, getD-set-other}
 use Rattle.sets.specs.Sets.{bit, _∈_, _∉_, _⊆_, insert, single, rank, count, members}
 use Rattle.sets.proofs.Bits.{in-out, not-in, member-or-not}
 use Rattle.sets.proofs.Numbers.{eq-or-ne}
 use Rattle.sets.proofs.Sets.{∪-cases, ∪-left, in-single, insert-in, ⊆-∪-left, ⊆-trans, ∪-lt, single-lt, zero-out, ⊆-le}
 use Rattle.records.specs.declared.Record.{Record}
-use Rattle.records.specs.declared.Record.the-variants.{Attribute, Object, Dependency, Row, Declared, Removed}
-use Rattle.records.specs.declared.Record.the-variants.{Item, CompareTwo, CompareConstant, End}
+use Rattle.records.specs.declared.Record.the-variants.{Attribute, Object, Dependency, Row, Declared, Removed, Item}
+use Rattle.records.specs.declared.Record.the-variants.{CompareTwo, CompareConstant, End}
 use Rattle.scheme.specs.declared.Scheme.{Scheme}
 use Rattle.scheme.specs.Dependencies as Dependencies
 use Rattle.scheme.specs.Growing.{familyOf}
@@ -33,9 +33,8 @@ use Rattle.book.specs.Declaring.{withRemoved, declare}
 use Rattle.book.specs.Accepting.{Accepted, none, one}
 use Rattle.book.specs.WellFormed.{SomeAttributes, ObjectSet, Arrays, WellFormed}
 use Rattle.book.proofs.Lists.{changed, getD-zeros}
-use Rattle.book.proofs.Declaring.{NewAttribute, NewObject, NewDependency, NewMaximal}
-use Rattle.book.proofs.Declaring.{attribute-accepted, object-accepted, dependency-accepted}
-use Rattle.book.proofs.Declaring.{declared-accepted, removed-accepted}
+use Rattle.book.proofs.Declaring.{NewAttribute, NewObject, NewDependency, NewMaximal, attribute-accepted}
+use Rattle.book.proofs.Declaring.{object-accepted, dependency-accepted, declared-accepted, removed-accepted}
 
 -- ---- wider sets
 

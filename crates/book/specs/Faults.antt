@@ -10,8 +10,8 @@ use lib.ListN.{getD, drop}
 use Rattle.sets.specs.Sets.{has, within, isEmpty, count}
 use Rattle.values.specs.Values.{inRange}
 use Rattle.records.specs.declared.Record.{Record}
-use Rattle.records.specs.declared.Record.the-variants.{Attribute, Object, Dependency, Row, Declared, Removed}
-use Rattle.records.specs.declared.Record.the-variants.{Item, CompareTwo, CompareConstant, End}
+use Rattle.records.specs.declared.Record.the-variants.{Attribute, Object, Dependency, Row, Declared, Removed, Item}
+use Rattle.records.specs.declared.Record.the-variants.{CompareTwo, CompareConstant, End}
 use Rattle.relation.specs.Tables.{cellOf}
 use Rattle.scheme.specs.declared.Scheme.{Scheme}
 

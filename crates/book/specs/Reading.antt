@@ -8,8 +8,9 @@ use lib.Dec.{eqb, ltb}
 use lib.ListN.{length, take, drop}
 use Rattle.records.specs.Reader.{readAt}
 use Rattle.records.specs.declared.Record.{Record}
-use Rattle.records.specs.declared.Record.the-variants.{Attribute, Object, Dependency, Row, Declared, Removed}
-use Rattle.records.specs.declared.Record.the-variants.{Item, CompareTwo, CompareConstant, End}
+use Rattle.records.specs.declared.Record.the-variants.{Attribute, Object, Dependency, Row, Declared, Removed, Item}
+use Rattle.records.specs.declared.Record.the-variants.{CompareTwo, CompareConstant, End}
+use Rattle.records.specs.declared.Reading.{Reading}
 use Rattle.records.specs.declared.Reading.the-variants.{Nothing, Unknown, Short, Found}
 use Rattle.scheme.specs.declared.Scheme.{Scheme}
 use Rattle.scheme.specs.OfScheme.{maximalOf, unmatchedOf, cyclicOf}
@@ -48,6 +49,13 @@ withRow rows r at = elim (isRow r) [ true ↦ rows ++ at ∷ [] | false ↦ rows
 -- "kind not allowed 2; body cut short 3" of a body that is cut short
 unfoldable pub shortFault : ℕ → ℕ
 shortFault k = elim (ofBook k) [ true ↦ 3 | false ↦ 2 ]
+
+-- the number where no whole record stands: 0 at the end
+unfoldable pub stopNumber : Reading → ℕ
+stopNumber Nothing = 0
+stopNumber Unknown = 2
+stopNumber (Short k) = shortFault k
+stopNumber (Found r next) = 0
 
 -- "the earliest faulty record": from position at on, with the scheme and the rows of the records before it. Each record
 -- is a byte or more, so there are at most n where n bytes are left

@@ -1,18 +1,16 @@
 // Reading the bytes of a book: its scheme, where its rows stand, and the number that it is refused with.
 ghost use mathlib.Core.Path.{_≡_};
-ghost use mathlib.Core.Bool.{true};
-ghost use mathlib.Core.List.{List, [], _∷_};
-ghost use Prim.Native.Nat.{ℕ, _<_, _≤_};
-ghost use lib.ListN.{length, getD, drop};
+ghost use mathlib.Core.List.{[]};
+ghost use Prim.Native.Nat.{_<_, _≤_};
+ghost use lib.ListN.{length, drop};
 ghost use Rattle.sets.specs.Sets.{count};
-ghost use Rattle.records.specs.declared.Record.{Record};
 ghost use Rattle.scheme.specs.OfScheme.{maximalOf};
-ghost use Rattle.book.specs.Faults.{firstOf, someNonZero, someOutside, wrongCells};
-ghost use Rattle.book.specs.Faults.{SixAtMost, rowChecks, maximalChecks, faultOf};
-ghost use Rattle.book.specs.Declaring.{nothingDeclared, withAttribute, withObject, withDependency};
-ghost use Rattle.book.specs.Declaring.{withDeclared, withRemoved, declare};
-ghost use Rattle.book.specs.Reading.{isRow, shortFault, records, walkedOf, lastNumber, lastFault, read};
-ghost use Rattle.book.specs.Reading.{bookWith, bookOf, stored};
+ghost use Rattle.book.specs.Faults.{firstOf, someNonZero, someOutside, wrongCells, SixAtMost, rowChecks};
+ghost use Rattle.book.specs.Faults.{maximalChecks, faultOf};
+ghost use Rattle.book.specs.Declaring.{nothingDeclared, withAttribute, withObject, withDependency, withDeclared};
+ghost use Rattle.book.specs.Declaring.{withRemoved, declare};
+ghost use Rattle.book.specs.Reading.{isRow, shortFault, stopNumber, records, walkedOf, lastNumber, lastFault};
+ghost use Rattle.book.specs.Reading.{read, bookWith, bookOf, stored};
 use records::Reading;
 use records::Record;
 use scheme::Scheme;
@@ -296,6 +294,17 @@ fn short_fault(kind: u8) -> u8
     if 1 <= kind && kind <= 6 { 3 } else { 2 }
 }
 
+// The number where no whole record stands: 0 at the end.
+fn unread(found: Reading) -> u8
+    ensures { λ r. ⌜ r ≡ stopNumber found ⌝ }
+{
+    match found {
+        Reading::Unknown => 2,
+        Reading::Short(kind) => short_fault(kind),
+        _ => 0,
+    }
+}
+
 // What the records of a book come to: the fault of the earliest faulty one, or 0, and what stands before it.
 struct Walked {
     refusal: u8,
@@ -314,41 +323,29 @@ fn walk(bytes: &[u8], directory: &mut [u32]) -> Walked
     let mut at: usize = 0;
     loop {
         let found = records::read(bytes, at);
-        match found {
-            Reading::Nothing => return Walked {
-                refusal: 0,
+        let Reading::Found(r, next) = found else {
+            return Walked {
+                refusal: unread(found),
                 rows,
                 scheme,
-            },
-            Reading::Unknown => return Walked {
-                refusal: 2,
+            };
+        };
+        let refusal = fault(scheme, r);
+        if refusal != 0 {
+            return Walked {
+                refusal,
                 rows,
                 scheme,
-            },
-            Reading::Short(kind) => return Walked {
-                refusal: short_fault(kind),
-                rows,
-                scheme,
-            },
-            Reading::Found(r, next) => {
-                let refusal = fault(scheme, r);
-                if refusal != 0 {
-                    return Walked {
-                        refusal,
-                        rows,
-                        scheme,
-                    };
-                }
-                if is_row(r) {
-                    if rows < directory.len() {
-                        directory[rows] = at as u32;
-                    }
-                    rows += 1;
-                }
-                scheme = declare(scheme, r);
-                at = next;
-            }
+            };
         }
+        if is_row(r) {
+            if rows < directory.len() {
+                directory[rows] = at as u32;
+            }
+            rows += 1;
+        }
+        scheme = declare(scheme, r);
+        at = next;
     }
 }
 

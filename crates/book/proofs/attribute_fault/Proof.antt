@@ -3,7 +3,6 @@ use mathlib.Core.List.{[], _∷_}
 use lib.Dec.{ltb}
 use Rattle.sets.specs.Sets.{has}
 use borrow.Author.Tests.{lt-ltb, le-ltb}
-use mathlib.Core.Path.{refl}
 use Rattle.sets.proofs.Tests.{or-left, or-right, or-no}
 use Rattle.book.specs.Faults.{checks, faultOf}
 use Rattle.book.proofs.Faults.{first-yes, first-no, first-none, tested-member}
@@ -30,16 +29,18 @@ has-requires c κs = search needs
 returns-3 : tie.Need-returns-3
 unfolding faultOf checks
 returns-3 c =
-    first-no _ _ (or-no (le-ltb 31 _ (c .before .before .before .before .if1 .left)) (le-ltb 3 _ (c .before .before
-    .before .if2 .left))) (first-yes _ (tested-member _ (c .before .has .ensures) (c .before .before .wide .ensures
-    .0) (c .if3 .taken)))
+    let range = or-no (le-ltb 31 _ (c .before .before .before .before .if1 .left)) (le-ltb 3 _ (c .before .before
+    .before .if2 .left)) in
+    first-no _ _ range (first-yes _ (tested-member _ (c .before .has .ensures) (c .before .before .wide .ensures .0)
+    (c .if3 .taken)))
 
 returns-4 : tie.Need-returns-4
 unfolding faultOf checks
 returns-4 c =
-    first-no _ _ (or-no (le-ltb 31 _ (c .before .before .before .before .if1 .left)) (le-ltb 3 _ (c .before .before
-    .before .if2 .left))) (first-no _ _ (tested-member _ (c .before .has .ensures) (c .before .before .wide .ensures
-    .0) (c .if3 .left)) first-none)
+    let range = or-no (le-ltb 31 _ (c .before .before .before .before .if1 .left)) (le-ltb 3 _ (c .before .before
+    .before .if2 .left)) in
+    let new = tested-member _ (c .before .has .ensures) (c .before .before .wide .ensures .0) (c .if3 .left) in
+    first-no _ _ range (first-no _ _ new first-none)
 
 pub attribute-fault-spec : {M : Type 1} → statement M
 attribute-fault-spec =

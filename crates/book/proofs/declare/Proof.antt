@@ -1,11 +1,8 @@
 -- `book::declare` meets its contract: a record without a fault has a place for what it adds. Assumes nothing.
-use mathlib.Core.Path.{_≡_, ap, sym, _∙_, subst}
-use Rattle.records.specs.declared.Record.{Record}
-use Rattle.book.specs.Faults.{faultOf}
+use Rattle.book.proofs.Declaring.{same-fault, attribute-accepted, object-accepted, dependency-accepted}
+use Rattle.book.proofs.Declaring.{declared-accepted, removed-accepted, adds-nothing}
+use mathlib.Core.Path.{ap, sym, _∙_}
 use Rattle.book.specs.Declaring.{declare}
-use Rattle.book.proofs.Declaring.{attribute-accepted, object-accepted, dependency-accepted}
-use Rattle.book.proofs.Declaring.{declared-accepted, removed-accepted}
-use Rattle.book.proofs.Declaring.{adds-nothing}
 use borrow.Author.Needs.{needs}
 use Rattle.book.proofs.declare.Statement.{statement}
 use Rattle.book.proofs.declare.Tie as tie
@@ -15,40 +12,35 @@ enum-known-r c = search needs
 
 with-attribute-requires : tie.Need-with-attribute-requires
 with-attribute-requires c κs =
-    attribute-accepted _ _ _ (subst (λ (r : Record). faultOf (c .before .before .before .args .s) r ≡ 0) (c .before .r
-    .given .1) (c .before .before .before .pre)) .below
+    attribute-accepted _ _ _ (same-fault _ (c .before .r .given .1) (c .before .before .before .pre)) .below
 
 enum-known-r-2 : tie.Need-enum-known-r-2
 enum-known-r-2 c = search needs
 
 with-object-requires : tie.Need-with-object-requires
 with-object-requires c κs =
-    object-accepted _ _ _ (subst (λ (r : Record). faultOf (c .before .before .before .args .s) r ≡ 0) (c .before .r2
-    .given .1) (c .before .before .before .pre)) .below
+    object-accepted _ _ _ (same-fault _ (c .before .r2 .given .1) (c .before .before .before .pre)) .below
 
 enum-known-r-3 : tie.Need-enum-known-r-3
 enum-known-r-3 c = search needs
 
 with-dependency-requires : tie.Need-with-dependency-requires
 with-dependency-requires c κs =
-    dependency-accepted _ _ _ (subst (λ (r : Record). faultOf (c .before .before .before .args .s) r ≡ 0) (c .before
-    .r3 .given .1) (c .before .before .before .pre)) .room
+    dependency-accepted _ _ _ (same-fault _ (c .before .r3 .given .1) (c .before .before .before .pre)) .room
 
 enum-known-r-4 : tie.Need-enum-known-r-4
 enum-known-r-4 c = search needs
 
 with-declared-requires : tie.Need-with-declared-requires
 with-declared-requires c κs =
-    declared-accepted _ _ (subst (λ (r : Record). faultOf (c .before .before .before .args .s) r ≡ 0) (c .before .r4
-    .given .1) (c .before .before .before .pre)) .room
+    declared-accepted _ _ (same-fault _ (c .before .r4 .given .1) (c .before .before .before .pre)) .room
 
 enum-known-r-5 : tie.Need-enum-known-r-5
 enum-known-r-5 c = search needs
 
 with-removed-requires : tie.Need-with-removed-requires
 with-removed-requires c κs =
-    removed-accepted _ _ (subst (λ (r : Record). faultOf (c .before .before .before .args .s) r ≡ 0) (c .before .r5
-    .given .1) (c .before .before .before .pre)) .room
+    removed-accepted _ _ (same-fault _ (c .before .r5 .given .1) (c .before .before .before .pre)) .room
 
 returns : tie.Need-returns
 unfolding declare

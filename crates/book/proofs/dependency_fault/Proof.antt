@@ -1,11 +1,10 @@
+-- `book::dependency_fault` meets its contract: each way out is the first check of kind 3 that holds. Assumes nothing.
 use mathlib.Core.Bool.{not}
 use Rattle.sets.specs.Sets.{isEmpty, within}
--- `book::dependency_fault` meets its contract: each way out is the first check of kind 3 that holds. Assumes nothing.
 use Rattle.book.proofs.Faults.{first-yes, first-no, first-none, tested, tested-not}
 use borrow.Author.Tests.{le-leb, lt-leb}
 use Rattle.sets.proofs.Tests.{or-left, or-right, or-no}
 use Rattle.book.specs.Faults.{checks, faultOf}
-use Rattle.book.proofs.Faults.{first-yes, first-no, first-none, tested, tested-not}
 use borrow.Author.Needs.{needs}
 use Rattle.book.proofs.dependency_fault.Statement.{statement}
 use Rattle.book.proofs.dependency_fault.Tie as tie
@@ -39,10 +38,12 @@ within-requires c κs = search needs
 returns-4 : tie.Need-returns-4
 unfolding faultOf checks
 returns-4 c =
-    first-no _ _ (lt-leb 64 _ (c .before .before .before .before .before .before .if1 .left)) (first-no _ _ (or-no
-    (tested (c .before .before .before .before .before .is-empty .ensures) (c .before .before .before .before .if2
-    .left)) (tested (c .before .before .before .is-empty2 .ensures) (c .before .before .if3 .left))) (first-yes _
-    (or-left _ (tested-not (c .before .within .ensures) (c .if4 .taken)))))
+    let room = lt-leb 64 _ (c .before .before .before .before .before .before .if1 .left) in
+    let filled = or-no (tested (c .before .before .before .before .before .is-empty .ensures) (c .before .before
+    .before .before .if2 .left)) (tested (c .before .before .before .is-empty2 .ensures) (c .before .before .if3
+    .left)) in
+    first-no _ _ room (first-no _ _ filled (first-yes _ (or-left _ (tested-not (c .before .within .ensures) (c .if4
+    .taken)))))
 
 within-requires-2 : tie.Need-within-requires-2
 within-requires-2 c κs = search needs
@@ -50,23 +51,26 @@ within-requires-2 c κs = search needs
 returns-5 : tie.Need-returns-5
 unfolding faultOf checks
 returns-5 c =
-    first-no _ _ (lt-leb 64 _ (c .before .before .before .before .before .before .before .before .if1 .left))
-    (first-no _ _ (or-no (tested (c .before .before .before .before .before .before .before .is-empty .ensures) (c
-    .before .before .before .before .before .before .if2 .left)) (tested (c .before .before .before .before .before
-    .is-empty2 .ensures) (c .before .before .before .before .if3 .left))) (first-yes _ (or-right (not (within (c
-    .before .before .before .before .before .before .before .before .before .before .args .left) (c .before .before
-    .before .before .before .before .before .before .before .before .args .s .attributes))) (tested-not (c .before
-    .within2 .ensures) (c .if5 .taken)))))
+    let room = lt-leb 64 _ (c .before .before .before .before .before .before .before .before .if1 .left) in
+    let filled = or-no (tested (c .before .before .before .before .before .before .before .is-empty .ensures) (c
+    .before .before .before .before .before .before .if2 .left)) (tested (c .before .before .before .before
+    .before .is-empty2 .ensures) (c .before .before .before .before .if3 .left)) in
+    let right = tested-not (c .before .within2 .ensures) (c .if5 .taken) in
+    let known = or-right (not (within (c .before .before .before .before .before .before .before .before .before
+    .before .args .left) (c .before .before .before .before .before .before .before .before .before .before .args
+    .s .attributes))) right in
+    first-no _ _ room (first-no _ _ filled (first-yes _ known))
 
 returns-6 : tie.Need-returns-6
 unfolding faultOf checks
 returns-6 c =
-    first-no _ _ (lt-leb 64 _ (c .before .before .before .before .before .before .before .before .if1 .left))
-    (first-no _ _ (or-no (tested (c .before .before .before .before .before .before .before .is-empty .ensures) (c
-    .before .before .before .before .before .before .if2 .left)) (tested (c .before .before .before .before .before
-    .is-empty2 .ensures) (c .before .before .before .before .if3 .left))) (first-no _ _ (or-no (tested-not (c .before
-    .before .before .within .ensures) (c .before .before .if4 .left)) (tested-not (c .before .within2 .ensures) (c
-    .if5 .left))) first-none))
+    let room = lt-leb 64 _ (c .before .before .before .before .before .before .before .before .if1 .left) in
+    let filled = or-no (tested (c .before .before .before .before .before .before .before .is-empty .ensures) (c
+    .before .before .before .before .before .before .if2 .left)) (tested (c .before .before .before .before
+    .before .is-empty2 .ensures) (c .before .before .before .before .if3 .left)) in
+    let known = or-no (tested-not (c .before .before .before .within .ensures) (c .before .before .if4 .left))
+    (tested-not (c .before .within2 .ensures) (c .if5 .left)) in
+    first-no _ _ room (first-no _ _ filled (first-no _ _ known first-none))
 
 pub dependency-fault-spec : {M : Type 1} → statement M
 dependency-fault-spec =

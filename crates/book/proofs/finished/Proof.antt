@@ -1,6 +1,5 @@
 -- `book::finished` meets its contract: it is the definition, by its two callees. Assumes nothing.
 use Rattle.book.proofs.Books.{finished-book}
-use borrow.Author.Needs.{needs}
 use Rattle.book.proofs.finished.Statement.{statement}
 use Rattle.book.proofs.finished.Tie as tie
 

@@ -2,7 +2,6 @@
 use mathlib.Core.Path.{sym, ap, ap₂}
 use mathlib.Core.Bool.{Bool}
 use Rattle.book.specs.Reading.{lastNumber}
-use borrow.Author.Needs.{needs}
 use Rattle.book.proofs.last_fault.Statement.{statement}
 use Rattle.book.proofs.last_fault.Tie as tie
 

@@ -3,7 +3,6 @@
 use Rattle.book.proofs.Faults.{first-yes, first-no, first-none, tested, tested-not}
 use borrow.Author.Tests.{le-leb, lt-leb}
 use Rattle.book.specs.Faults.{maximalChecks}
-use Rattle.book.proofs.Faults.{first-yes, first-no, first-none, tested, tested-not}
 use borrow.Author.Needs.{needs}
 use Rattle.book.proofs.maximal_fault.Statement.{statement}
 use Rattle.book.proofs.maximal_fault.Tie as tie
@@ -27,16 +26,17 @@ within-requires c κs = search needs
 returns-3 : tie.Need-returns-3
 unfolding maximalChecks
 returns-3 c =
-    first-no _ _ (lt-leb 8 _ (c .before .before .before .before .if1 .left)) (first-no _ _ (tested (c .before .before
-    .before .is-empty .ensures) (c .before .before .if2 .left)) (first-yes _ (tested-not (c .before .within .ensures)
-    (c .if3 .taken))))
+    let room = lt-leb 8 _ (c .before .before .before .before .if1 .left) in
+    let filled = tested (c .before .before .before .is-empty .ensures) (c .before .before .if2 .left) in
+    first-no _ _ room (first-no _ _ filled (first-yes _ (tested-not (c .before .within .ensures) (c .if3 .taken))))
 
 returns-4 : tie.Need-returns-4
 unfolding maximalChecks
 returns-4 c =
-    first-no _ _ (lt-leb 8 _ (c .before .before .before .before .if1 .left)) (first-no _ _ (tested (c .before .before
-    .before .is-empty .ensures) (c .before .before .if2 .left)) (first-no _ _ (tested-not (c .before .within .ensures)
-    (c .if3 .left)) first-none))
+    let room = lt-leb 8 _ (c .before .before .before .before .if1 .left) in
+    let filled = tested (c .before .before .before .is-empty .ensures) (c .before .before .if2 .left) in
+    let known = tested-not (c .before .within .ensures) (c .if3 .left) in
+    first-no _ _ room (first-no _ _ filled (first-no _ _ known first-none))
 
 pub maximal-fault-spec : {M : Type 1} → statement M
 maximal-fault-spec =

@@ -1,7 +1,6 @@
 -- `book::nothing_declared` meets its contract: field for field it is the definition. Assumes nothing.
 use mathlib.Core.Path.{refl}
 use Rattle.book.specs.Declaring.{nothingDeclared}
-use borrow.Author.Needs.{needs}
 use Rattle.book.proofs.nothing_declared.Statement.{statement}
 use Rattle.book.proofs.nothing_declared.Tie as tie
 

@@ -1,13 +1,12 @@
+-- `book::object_fault` meets its contract: each way out is the first check of kind 2 that holds. Assumes nothing.
 use lib.Dec.{ltb}
 use mathlib.Core.Bool.{_||_}
 use Rattle.sets.specs.Sets.{isEmpty, count}
--- `book::object_fault` meets its contract: each way out is the first check of kind 2 that holds. Assumes nothing.
-use Rattle.book.proofs.Faults.{first-yes, first-no, first-none, tested, tested-member, tested-not}
+use Rattle.book.proofs.Faults.{first-yes, first-no, first-none, tested, tested-member, tested-not, over-counted}
+use Rattle.book.proofs.Faults.{under-counted}
 use borrow.Author.Tests.{lt-ltb, le-ltb}
 use Rattle.sets.proofs.Tests.{or-left, or-right, or-no}
 use Rattle.book.specs.Faults.{checks, faultOf}
-use Rattle.book.proofs.Faults.{first-yes, first-no, first-none, tested, tested-member, tested-not}
-use Rattle.book.proofs.Faults.{over-counted, under-counted}
 use borrow.Author.Needs.{needs}
 use Rattle.book.proofs.object_fault.Statement.{statement}
 use Rattle.book.proofs.object_fault.Tie as tie
@@ -43,11 +42,13 @@ has-requires c κs = search needs
 returns-4 : tie.Need-returns-4
 unfolding faultOf checks
 returns-4 c =
-    first-no _ _ (or-no (or-no (le-ltb 31 _ (c .before .before .before .before .before .before .before .if1 .left))
-    (tested (c .before .before .before .before .before .before .is-empty .ensures) (c .before .before .before .before
-    .before .if2 .left))) (under-counted (c .before .before .before .before .count .ensures) (c .before .before
-    .before .if3 .left))) (first-yes _ (tested-member _ (c .before .has .ensures) (c .before .before .wide .ensures
-    .0) (c .if4 .taken)))
+    let filled = or-no (le-ltb 31 _ (c .before .before .before .before .before .before .before .if1 .left)) (tested (c
+    .before .before .before .before .before .before .is-empty .ensures) (c .before .before .before .before .before
+    .if2 .left)) in
+    let range = or-no filled (under-counted (c .before .before .before .before .count .ensures) (c .before .before
+    .before .if3 .left)) in
+    first-no _ _ range (first-yes _ (tested-member _ (c .before .has .ensures) (c .before .before .wide .ensures .0)
+    (c .if4 .taken)))
 
 within-requires : tie.Need-within-requires
 within-requires c κs = search needs
@@ -55,22 +56,27 @@ within-requires c κs = search needs
 returns-5 : tie.Need-returns-5
 unfolding faultOf checks
 returns-5 c =
-    first-no _ _ (or-no (or-no (le-ltb 31 _ (c .before .before .before .before .before .before .before .before .before
-    .if1 .left)) (tested (c .before .before .before .before .before .before .before .before .is-empty .ensures) (c
-    .before .before .before .before .before .before .before .if2 .left))) (under-counted (c .before .before .before
-    .before .before .before .count .ensures) (c .before .before .before .before .before .if3 .left))) (first-no _ _
-    (tested-member _ (c .before .before .before .has .ensures) (c .before .before .before .before .wide .ensures .0)
-    (c .before .before .if4 .left)) (first-yes _ (tested-not (c .before .within .ensures) (c .if5 .taken))))
+    let filled = or-no (le-ltb 31 _ (c .before .before .before .before .before .before .before .before .before .if1
+    .left)) (tested (c .before .before .before .before .before .before .before .before .is-empty .ensures) (c
+    .before .before .before .before .before .before .before .if2 .left)) in
+    let range = or-no filled (under-counted (c .before .before .before .before .before .before .count .ensures) (c
+    .before .before .before .before .before .if3 .left)) in
+    let new = tested-member _ (c .before .before .before .has .ensures) (c .before .before .before .before .wide
+    .ensures .0) (c .before .before .if4 .left) in
+    first-no _ _ range (first-no _ _ new (first-yes _ (tested-not (c .before .within .ensures) (c .if5 .taken))))
 
 returns-6 : tie.Need-returns-6
 unfolding faultOf checks
 returns-6 c =
-    first-no _ _ (or-no (or-no (le-ltb 31 _ (c .before .before .before .before .before .before .before .before .before
-    .if1 .left)) (tested (c .before .before .before .before .before .before .before .before .is-empty .ensures) (c
-    .before .before .before .before .before .before .before .if2 .left))) (under-counted (c .before .before .before
-    .before .before .before .count .ensures) (c .before .before .before .before .before .if3 .left))) (first-no _ _
-    (tested-member _ (c .before .before .before .has .ensures) (c .before .before .before .before .wide .ensures .0)
-    (c .before .before .if4 .left)) (first-no _ _ (tested-not (c .before .within .ensures) (c .if5 .left)) first-none))
+    let filled = or-no (le-ltb 31 _ (c .before .before .before .before .before .before .before .before .before .if1
+    .left)) (tested (c .before .before .before .before .before .before .before .before .is-empty .ensures) (c
+    .before .before .before .before .before .before .before .if2 .left)) in
+    let range = or-no filled (under-counted (c .before .before .before .before .before .before .count .ensures) (c
+    .before .before .before .before .before .if3 .left)) in
+    let new = tested-member _ (c .before .before .before .has .ensures) (c .before .before .before .before .wide
+    .ensures .0) (c .before .before .if4 .left) in
+    let known = tested-not (c .before .within .ensures) (c .if5 .left) in
+    first-no _ _ range (first-no _ _ new (first-no _ _ known first-none))
 
 pub object-fault-spec : {M : Type 1} → statement M
 object-fault-spec =

@@ -11,10 +11,9 @@ stopped-requires : tie.Need-stopped-requires
 stopped-requires c κs = search needs
 
 returns : tie.Need-returns
-returns c = (
-  book-over _ (c .before .before .if1 .taken) (c .before .nothing-declared .ensures) (c .stopped .ensures),
-  directory-over _ (c .before .before .if1 .taken) _,
-)
+returns c =
+    let over = c .before .before .if1 .taken in
+    (book-over _ over (c .before .nothing-declared .ensures) (c .stopped .ensures), directory-over _ over _)
 
 walk-requires : tie.Need-walk-requires
 walk-requires c κs = search needs
@@ -26,13 +25,13 @@ same-length : tie.Need-same-length
 same-length c = search needs
 
 returns-2 : tie.Need-returns-2
-returns-2 c = (
-  book-stopped _ (c .before .before .before .before .before .before .before .before .if1 .left) (c .before .before
-      .before .before .before .before .walk .ensures .0) (c .before .if2 .taken) (c .stopped2 .ensures),
-  directory-within _ (c .before .before .before .before .before .before .before .before .if1 .left) (c .before
-      .before .before .before .before .before .walk .ensures .0) _ (c .before .before .before .before .before .before
-      .walk .ensures .1),
-)
+returns-2 c =
+    let within = c .before .before .before .before .before .before .before .before .if1 .left in
+    let w = c .before .before .before .before .before .before .walk .ensures in (
+      book-stopped _ within (w .0) (c .before .if2 .taken) (c .stopped2 .ensures),
+      directory-within _ within (w .0) _
+          (w .1),
+    )
 
 finished-requires : tie.Need-finished-requires
 finished-requires c κs = search needs
@@ -41,13 +40,13 @@ same-length-2 : tie.Need-same-length-2
 same-length-2 c = search needs
 
 returns-3 : tie.Need-returns-3
-returns-3 c = (
-  book-finished _ (c .before .before .before .before .before .before .before .before .if1 .left) (c .before .before
-      .before .before .before .before .walk .ensures .0) (c .before .if2 .left) (c .finished .ensures),
-  directory-within
-      _ (c .before .before .before .before .before .before .before .before .if1 .left) (c .before .before .before
-      .before .before .before .walk .ensures .0) _ (c .before .before .before .before .before .before .walk .ensures .1),
-)
+returns-3 c =
+    let within = c .before .before .before .before .before .before .before .before .if1 .left in
+    let w = c .before .before .before .before .before .before .walk .ensures in (
+      book-finished _ within (w .0) (c .before .if2 .left) (c .finished .ensures),
+      directory-within _ within (w .0) _
+          (w .1),
+    )
 
 pub read-spec : {M : Type 1} → statement M
 read-spec =

@@ -1,8 +1,7 @@
 -- `book::row_fault` meets its contract: each way out is the first check of a row that holds. Assumes nothing.
 use borrow.Author.Tests.{lt-ltb, le-ltb}
-use mathlib.Core.Path.{sym, _∙_}
 use Rattle.book.specs.Faults.{rowChecks}
-use Rattle.book.proofs.Faults.{first-yes, first-no, first-none, tested, tested-member, tested-absent}
+use Rattle.book.proofs.Faults.{first-yes, first-no, first-none, tested, tested-absent}
 use borrow.Author.Needs.{needs}
 use Rattle.book.proofs.row_fault.Statement.{statement}
 use Rattle.book.proofs.row_fault.Tie as tie
@@ -20,8 +19,9 @@ has-requires c κs = search needs
 returns-2 : tie.Need-returns-2
 unfolding rowChecks
 returns-2 c =
-    first-no _ _ (le-ltb 31 _ (c .before .before .before .if1 .left)) (first-yes _ (tested-absent _ (c .before .has
-    .ensures) (c .before .before .wide .ensures .0) (c .if2 .taken)))
+    let below = le-ltb 31 _ (c .before .before .before .if1 .left) in
+    first-no _ _ below (first-yes _ (tested-absent _ (c .before .has .ensures) (c .before .before .wide .ensures .0)
+    (c .if2 .taken)))
 
 mul-set : tie.Need-mul-set
 mul-set c = search needs
@@ -35,18 +35,19 @@ wrong-cells-requires c κs = c .before .before .before .before .before .before .
 returns-3 : tie.Need-returns-3
 unfolding rowChecks
 returns-3 c =
-    first-no _ _ (le-ltb 31 _ (c .before .before .before .before .before .before .before .if1 .left)) (first-no _ _
-    (tested-absent _ (c .before .before .before .before .before .has .ensures) (c .before .before .before .before
-    .before .before .wide .ensures .0) (c .before .before .before .before .if2 .left)) (first-yes _ (tested (c .before
-    .wrong-cells .ensures) (c .if3 .taken))))
+    let below = le-ltb 31 _ (c .before .before .before .before .before .before .before .if1 .left) in
+    let known = tested-absent _ (c .before .before .before .before .before .has .ensures) (c .before .before .before
+    .before .before .before .wide .ensures .0) (c .before .before .before .before .if2 .left) in
+    first-no _ _ below (first-no _ _ known (first-yes _ (tested (c .before .wrong-cells .ensures) (c .if3 .taken))))
 
 returns-4 : tie.Need-returns-4
 unfolding rowChecks
 returns-4 c =
-    first-no _ _ (le-ltb 31 _ (c .before .before .before .before .before .before .before .if1 .left)) (first-no _ _
-    (tested-absent _ (c .before .before .before .before .before .has .ensures) (c .before .before .before .before
-    .before .before .wide .ensures .0) (c .before .before .before .before .if2 .left)) (first-no _ _ (tested (c
-    .before .wrong-cells .ensures) (c .if3 .left)) first-none))
+    let below = le-ltb 31 _ (c .before .before .before .before .before .before .before .if1 .left) in
+    let known = tested-absent _ (c .before .before .before .before .before .has .ensures) (c .before .before .before
+    .before .before .before .wide .ensures .0) (c .before .before .before .before .if2 .left) in
+    let right = tested (c .before .wrong-cells .ensures) (c .if3 .left) in
+    first-no _ _ below (first-no _ _ known (first-no _ _ right first-none))
 
 pub row-fault-spec : {M : Type 1} → statement M
 row-fault-spec =

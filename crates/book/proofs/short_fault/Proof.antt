@@ -1,8 +1,7 @@
+-- `book::short_fault` meets its contract: the test is that of the definition. Assumes nothing.
 use borrow.Author.Tests.{leb-true, leb-false}
 use mathlib.Core.Logic.{⊎-elim}
 use Rattle.book.proofs.Declaring.{short-yes, short-low, short-high}
--- `book::short_fault` meets its contract: the test is that of the definition. Assumes nothing.
-use borrow.Author.Needs.{needs}
 use Rattle.book.proofs.short_fault.Statement.{statement}
 use Rattle.book.proofs.short_fault.Tie as tie
 

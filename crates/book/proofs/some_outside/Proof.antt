@@ -1,7 +1,6 @@
 -- `book::some_outside` meets its contract. The invariant: no attribute passed has a cell outside its range
 -- (`InsideSoFar`). The measure: the attributes left. Assumes nothing.
-use Prim.Native.Nat.{_-_, _<_}
-use mathlib.Core.Path.{sym, _∙_}
+use Prim.Native.Nat.{_-_}
 use mathlib.Core.Logic.{⊎-elim}
 use native.Mathlib.Omega.{arith}
 use Rattle.book.proofs.Faults.{tested}
@@ -31,33 +30,35 @@ array-read-in-range c = search needs
 
 mul-in-range : tie.Need-mul-in-range Inv-loop μ-loop
 mul-in-range c =
+    let is = tested (c .before .has .ensures) (c .if1 .taken) in
     omega (
       arith,
       place-in-row (c .before .before .before .loop .inv) (c .before .before .loop-test .taken) (c .before
-          .before .before .before .pre) (tested (c .before .has .ensures) (c .if1 .taken)),
+          .before .before .before .pre) is,
     )
 
 array-read-in-range-2 : tie.Need-array-read-in-range-2 Inv-loop μ-loop
 array-read-in-range-2 c =
+    let is = tested (c .before .has .ensures) (c .if1 .taken) in
     place-in-row (c .before .before .before .loop .inv) (c .before .before .loop-test .taken) (c .before .before
-    .before .before .pre) (tested (c .before .has .ensures) (c .if1 .taken))
+    .before .before .pre) is
 
 in-range-requires : tie.Need-in-range-requires Inv-loop μ-loop
 in-range-requires c κs = search needs
 
 returns : tie.Need-returns Inv-loop μ-loop
 returns c =
+    let is = tested (c .before .before .before .has .ensures) (c .before .before .if1 .taken) in
     outside-here (c .before .before .before .before .before .loop .inv) (c .before .before .before .before .loop-test
-    .taken) (tested (c .before .before .before .has .ensures) (c .before .before .if1 .taken)) (c .before .in-range
-    .ensures) (c .if2 .taken)
+    .taken) is (c .before .in-range .ensures) (c .if2 .taken)
 
 add-place : tie.Need-add-place Inv-loop μ-loop
 add-place c =
+    let is = tested (c .before .before .before .has .ensures) (c .before .before .if1 .taken) in
     omega (
       arith,
       place-in-row (c .before .before .before .before .before .loop .inv) (c .before .before .before
-          .before .loop-test .taken) (c .before .before .before .before .before .before .pre) (tested (c .before .before
-          .before .has .ensures) (c .before .before .if1 .taken)),
+          .before .loop-test .taken) (c .before .before .before .before .before .before .pre) is,
     )
 
 add-a : tie.Need-add-a Inv-loop μ-loop
@@ -68,10 +69,12 @@ loop-less c = search needs
 
 loop-again : tie.Need-loop-again Inv-loop μ-loop
 loop-again c =
-    ⊎-elim (λ w. inside-with (c .before .before .before .loop .inv) (c .before .before .loop-test .taken) _ (tested (c
-    .before .has .ensures) (w .0 .taken)) (w .1 .ensures) (w .2 .left) (w .3)) (λ w. inside-past (c .before .before
-    .before .loop .inv) (c .before .before .loop-test .taken) _ (tested (c .before .has .ensures) (w .0 .left)) (w
-    .1)) (c .if1 .came)
+    let v = c .before .before .before .loop .inv in
+    let l = c .before .before .loop-test .taken in
+    let is = c .before .has .ensures in
+    ⊎-elim (λ w. inside-with v l _ (tested is (w .0 .taken)) (w .1 .ensures) (w .2 .left) (w .3))
+    (λ w. inside-past v l _ (tested is (w .0 .left)) (w .1))
+    (c .if1 .came)
 
 returns-2 : tie.Need-returns-2 Inv-loop μ-loop
 returns-2 c = inside-end (c .before .loop .inv) (c .loop-test .left)

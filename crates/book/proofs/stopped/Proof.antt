@@ -2,7 +2,6 @@
 use mathlib.Core.Path.{refl}
 use Rattle.reduction.specs.Packed.{padded}
 use Rattle.book.specs.Reading.{bookWith}
-use borrow.Author.Needs.{needs}
 use Rattle.book.proofs.stopped.Statement.{statement}
 use Rattle.book.proofs.stopped.Tie as tie
 

@@ -1,16 +1,15 @@
-use Rattle.records.proofs.Reader.{found-after, whole-readAt}
-use Rattle.book.proofs.Walking.{walking-as}
 -- `book::walk` meets its contract. The invariant: the records passed are accepted, their rows counted and stored
 -- (`Walking`). The measure: the bytes left. Assumes nothing.
 use Prim.Native.Nat.{_-_}
-use mathlib.Core.Path.{_≡_, sym, ap, _∙_, subst}
+use mathlib.Core.Path.{sym, _∙_}
 use mathlib.Core.Logic.{⊎-elim}
 use native.Mathlib.Omega.{arith}
 use lib.ListN.{length}
+use Rattle.records.proofs.Reader.{found-after, whole-readAt}
 use Rattle.book.proofs.Faults.{tested}
 use Rattle.book.proofs.Walking.{Walking, walking-start, walking-same, walking-inside, walking-rows, walking-six}
-use Rattle.book.proofs.Walking.{walking-stored, walking-full, walking-other}
-use Rattle.book.proofs.Walking.{walking-ended, walking-unknown, walking-short, walking-faulty}
+use Rattle.book.proofs.Walking.{walking-stored, walking-full, walking-other, walking-as, walking-unread}
+use Rattle.book.proofs.Walking.{walking-faulty}
 use borrow.Author.Needs.{needs}
 use Rattle.book.proofs.walk.Statement.{statement}
 use Rattle.book.proofs.walk.Tie as tie
@@ -30,79 +29,55 @@ loop-holds c = walking-start _ _ (c .nothing-declared .ensures)
 read-requires : tie.Need-read-requires Inv-loop μ-loop
 read-requires c κs = search needs
 
-enum-told : tie.Need-enum-told Inv-loop μ-loop
-enum-told c = search needs
+enum-known-found : tie.Need-enum-known-found Inv-loop μ-loop
+enum-known-found c = search needs
+
+unread-requires : tie.Need-unread-requires Inv-loop μ-loop
+unread-requires c κs = search needs
 
 same-length : tie.Need-same-length Inv-loop μ-loop
 same-length c = walking-same (c .before .before .before .loop .inv)
 
 returns : tie.Need-returns Inv-loop μ-loop
 returns c =
-    walking-ended (c .before .before .before .loop .inv) (sym (c .before .before .read .ensures) ∙ c .enum-told .given
-    .1)
-
-enum-told-2 : tie.Need-enum-told-2 Inv-loop μ-loop
-enum-told-2 c = search needs
-
-same-length-2 : tie.Need-same-length-2 Inv-loop μ-loop
-same-length-2 c = walking-same (c .before .before .before .loop .inv)
-
-returns-2 : tie.Need-returns-2 Inv-loop μ-loop
-returns-2 c =
-    walking-unknown (c .before .before .before .loop .inv) (sym (c .before .before .read .ensures) ∙ c .enum-told2
-    .given .1)
-
-enum-known-found : tie.Need-enum-known-found Inv-loop μ-loop
-enum-known-found c = search needs
-
-short-fault-requires : tie.Need-short-fault-requires Inv-loop μ-loop
-short-fault-requires c κs = search needs
-
-same-length-3 : tie.Need-same-length-3 Inv-loop μ-loop
-same-length-3 c = walking-same (c .before .before .before .before .before .loop .inv)
-
-returns-3 : tie.Need-returns-3 Inv-loop μ-loop
-returns-3 c =
-    walking-short (c .before .before .before .before .before .loop .inv) (sym (c .before .before .before .before .read
-    .ensures) ∙ c .before .before .found .given .1) (c .short-fault .ensures)
-
-enum-known-found-2 : tie.Need-enum-known-found-2 Inv-loop μ-loop
-enum-known-found-2 c = search needs
+    let e = sym (c .before .before .read .ensures) in
+    walking-unread (c .before .before .before .loop .inv) _ e (c .before .match .keys2) (c .unread .ensures)
 
 fault-requires : tie.Need-fault-requires Inv-loop μ-loop
 fault-requires c κs = walking-six (c .before .before .before .before .loop .inv)
 
-same-length-4 : tie.Need-same-length-4 Inv-loop μ-loop
-same-length-4 c = walking-same (c .before .before .before .before .before .before .loop .inv)
+same-length-2 : tie.Need-same-length-2 Inv-loop μ-loop
+same-length-2 c = walking-same (c .before .before .before .before .before .before .loop .inv)
 
-returns-4 : tie.Need-returns-4 Inv-loop μ-loop
-returns-4 c =
-    walking-faulty (c .before .before .before .before .before .before .loop .inv) (sym (c .before .before .before
-    .before .before .read .ensures) ∙ c .before .before .before .found2 .given .1) (c .before .fault .ensures) (c .if1
-    .taken)
+returns-2 : tie.Need-returns-2 Inv-loop μ-loop
+returns-2 c =
+    let e = sym (c .before .before .before .before .before .read .ensures) ∙ c .before .before .before .found .given
+    .1 in
+    walking-faulty (c .before .before .before .before .before .before .loop .inv) e (c .before .fault .ensures) (c
+    .if1 .taken)
 
 is-row-requires : tie.Need-is-row-requires Inv-loop μ-loop
 is-row-requires c κs = search needs
 
 cast-directory : tie.Need-cast-directory Inv-loop μ-loop
 cast-directory c =
+    let v = c .before .before .before .before .before .before .before .before .before .loop .inv in
     omega (
       arith,
-      walking-inside (c .before .before .before .before .before .before .before .before .before .loop
-          .inv),
-      c .before .before .before .before .before .before .before .before .before .before .before .before .before
-          .pre,
+      walking-inside v,
+      c .before .before .before .before .before .before .before .before .before .before
+          .before .before .before .pre,
     )
 
 mul-directory : tie.Need-mul-directory Inv-loop μ-loop
 mul-directory c =
+    let v = c .before .before .before .before .before .before .before .before .before .loop .inv in
     omega (
       arith,
-      walking-inside (c .before .before .before .before .before .before .before .before .before .loop
-          .inv),
-      walking-rows (c .before .before .before .before .before .before .before .before .before .loop .inv),
-      c
-          .before .before .before .before .before .before .before .before .before .before .before .before .before .pre,
+      walking-inside v,
+      walking-rows v,
+      c .before .before .before .before .before .before .before .before
+          .before .before .before .before .before .pre,
     )
 
 slice-write-directory : tie.Need-slice-write-directory Inv-loop μ-loop
@@ -110,13 +85,13 @@ slice-write-directory c = search needs
 
 add-rows : tie.Need-add-rows Inv-loop μ-loop
 add-rows c =
+    let v = c .before .before .before .before .before .before .before .before .before .loop .inv in
     omega (
       arith,
-      walking-inside (c .before .before .before .before .before .before .before .before .before .loop
-          .inv),
-      walking-rows (c .before .before .before .before .before .before .before .before .before .loop .inv),
-      c
-          .before .before .before .before .before .before .before .before .before .before .before .before .before .pre,
+      walking-inside v,
+      walking-rows v,
+      c .before .before .before .before .before .before .before .before
+          .before .before .before .before .before .pre,
     )
 
 declare-requires : tie.Need-declare-requires Inv-loop μ-loop
@@ -124,31 +99,25 @@ declare-requires c κs = sym (c .before .before .before .fault .ensures) ∙ c .
 
 loop-less : tie.Need-loop-less Inv-loop μ-loop
 loop-less c =
-    omega (
-      arith,
-      found-after _ _ (sym (c .before .before .before .before .before .before .before .before .read
-          .ensures) ∙ c .before .before .before .before .before .before .found2 .given .1),
-      whole-readAt _ _ (sym (c .before
-          .before .before .before .before .before .before .before .read .ensures) ∙ c .before .before .before .before
-          .before .before .found2 .given .1) .within,
-    )
+    let e = sym (c .before .before .before .before .before .before .before .before .read .ensures) ∙ c .before .before
+    .before .before .before .before .found .given .1 in
+    omega (arith, found-after _ _ e, whole-readAt _ _ e .within)
 
 loop-again : tie.Need-loop-again Inv-loop μ-loop
 loop-again c =
-    ⊎-elim (λ w. ⊎-elim (λ x. walking-as (walking-stored (c .before .before .before .before .before .before .before
-    .before .before .loop .inv) (sym (c .before .before .before .before .before .before .before .before .read
-    .ensures) ∙ c .before .before .before .before .before .before .found2 .given .1) (sym (c .before .before .before
-    .before .fault .ensures) ∙ c .before .before .before .if1 .left) (tested (c .before .before .is-row .ensures) (w
-    .0 .taken)) (x .0 .taken)) (w .2 ∙ x .1) (c .declare .ensures) (w .3)) (λ x. walking-as (walking-full (c .before
-    .before .before .before .before .before .before .before .before .loop .inv) (sym (c .before .before .before
-    .before .before .before .before .before .read .ensures) ∙ c .before .before .before .before .before .before
-    .found2 .given .1) (sym (c .before .before .before .before .fault .ensures) ∙ c .before .before .before .if1
-    .left) (tested (c .before .before .is-row .ensures) (w .0 .taken)) (x .0 .left)) (w .2 ∙ x .1) (c .declare
-    .ensures) (w .3)) (w .1 .came)) (λ w. walking-as (walking-other (c .before .before .before .before .before .before
-    .before .before .before .loop .inv) (sym (c .before .before .before .before .before .before .before .before .read
-    .ensures) ∙ c .before .before .before .before .before .before .found2 .given .1) (sym (c .before .before .before
-    .before .fault .ensures) ∙ c .before .before .before .if1 .left) (tested (c .before .before .is-row .ensures) (w
-    .0 .left))) (w .1) (c .declare .ensures) (w .2)) (c .before .if2 .came)
+    let v = c .before .before .before .before .before .before .before .before .before .loop .inv in
+    let e = sym (c .before .before .before .before .before .before .before .before .read .ensures) ∙ c .before .before
+    .before .before .before .before .found .given .1 in
+    let f = sym (c .before .before .before .before .fault .ensures) ∙ c .before .before .before .if1 .left in
+    let is = c .before .before .is-row .ensures in
+    let d = c .declare .ensures in
+    ⊎-elim
+    (λ w. ⊎-elim
+    (λ x. walking-as (walking-stored v e f (tested is (w .0 .taken)) (x .0 .taken)) (w .2 ∙ x .1) d (w .3))
+    (λ x. walking-as (walking-full v e f (tested is (w .0 .taken)) (x .0 .left)) (w .2 ∙ x .1) d (w .3))
+    (w .1 .came))
+    (λ w. walking-as (walking-other v e f (tested is (w .0 .left))) (w .1) d (w .2))
+    (c .before .if2 .came)
 
 pub walk-spec : {M : Type 1} → statement M
 walk-spec =
@@ -159,20 +128,13 @@ walk-spec =
     nothing-declared-requires
     loop-holds
     read-requires
-    enum-told
+    enum-known-found
+    unread-requires
     same-length
     returns
-    enum-told-2
+    fault-requires
     same-length-2
     returns-2
-    enum-known-found
-    short-fault-requires
-    same-length-3
-    returns-3
-    enum-known-found-2
-    fault-requires
-    same-length-4
-    returns-4
     is-row-requires
     cast-directory
     mul-directory

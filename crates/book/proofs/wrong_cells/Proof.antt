@@ -1,9 +1,4 @@
 -- `book::wrong_cells` meets its contract: it is the definition, by its two callees. Assumes nothing.
-use mathlib.Core.Path.{sym, ap, _∙_}
-use Prim.Native.Nat.{ℕ}
-use lib.ListN.{drop}
-use Rattle.sets.proofs.Tests.{or-left}
-use Rattle.book.specs.Faults.{someNonZero, wrongCells}
 use Rattle.book.proofs.Cells.{cells-wrong, cells-left}
 use borrow.Author.Needs.{needs}
 use Rattle.book.proofs.wrong_cells.Statement.{statement}
