@@ -14,13 +14,13 @@ ghost use Rattle.book.specs.Reading.{read, bookWith, bookOf, stored};
 use records::Reading;
 use records::Record;
 use scheme::Scheme;
+use sets::ATTRIBUTES;
+use sets::AttributeSet;
+use sets::OBJECTS;
+use sets::ObjectSet;
 
-// A byte as a number of 32 bits.
-fn wide(b: u8) -> u32
-    ensures { λ r. ⌜ (r ≡ b) × (r < 256) ⌝ }
-{
-    b as u32
-}
+// One value kind for each attribute.
+const KINDS: usize = ATTRIBUTES as usize;
 
 // Whether the cells from a place on are not all zero.
 fn some_nonzero(cells: [u32; 6], from: usize) -> bool
@@ -37,13 +37,13 @@ fn some_nonzero(cells: [u32; 6], from: usize) -> bool
 }
 
 // Whether some attribute of the set has a cell outside the range of its kind.
-fn some_outside(kinds: [u8; 32], set: u32, cells: [u32; 6]) -> bool
+fn some_outside(kinds: [u8; KINDS], set: AttributeSet, cells: [u32; 6]) -> bool
     requires { ⌜ count 32 set ≤ 6 ⌝ }
     ensures { λ r. ⌜ r ≡ someOutside kinds set cells 32 ⌝ }
 {
     let mut place: usize = 0;
     let mut a: usize = 0;
-    while a < 32 {
+    while a < KINDS {
         if sets::has(set, a as u32) {
             if !values::in_range(kinds[a], cells[place]) {
                 return true;
@@ -56,7 +56,7 @@ fn some_outside(kinds: [u8; 32], set: u32, cells: [u32; 6]) -> bool
 }
 
 // Whether a row of an object with this set has a non-zero cell that is not needed or one outside its range.
-fn wrong_cells(kinds: [u8; 32], set: u32, cells: [u32; 6]) -> bool
+fn wrong_cells(kinds: [u8; KINDS], set: AttributeSet, cells: [u32; 6]) -> bool
     requires { ⌜ count 32 set ≤ 6 ⌝ }
     ensures { λ r. ⌜ r ≡ wrongCells kinds set cells ⌝ }
 {
@@ -76,13 +76,13 @@ fn attribute_fault(s: Scheme, id: u8, kind: u8) -> u8
     if kind > 3 {
         return 5;
     }
-    if sets::has(s.attributes, wide(id)) {
+    if sets::has(s.attributes, records::wide(id)) {
         return 6;
     }
     0
 }
 
-fn object_fault(s: Scheme, number: u8, set: u32) -> u8
+fn object_fault(s: Scheme, number: u8, set: AttributeSet) -> u8
     ensures { λ r. ⌜ r ≡ faultOf s (Record.Object number set) ⌝ }
 {
     if number > 31 {
@@ -94,7 +94,7 @@ fn object_fault(s: Scheme, number: u8, set: u32) -> u8
     if sets::count(set) > 6 {
         return 5;
     }
-    if sets::has(s.objects, wide(number)) {
+    if sets::has(s.objects, records::wide(number)) {
         return 6;
     }
     if !sets::within(set, s.attributes) {
@@ -103,7 +103,7 @@ fn object_fault(s: Scheme, number: u8, set: u32) -> u8
     0
 }
 
-fn dependency_fault(s: Scheme, left: u32, right: u32) -> u8
+fn dependency_fault(s: Scheme, left: AttributeSet, right: AttributeSet) -> u8
     ensures { λ r. ⌜ r ≡ faultOf s (Record.Dependency left right) ⌝ }
 {
     if s.dependencies >= 64 {
@@ -131,7 +131,7 @@ fn row_fault(s: Scheme, object: u8, cells: [u32; 6]) -> u8
     if object > 31 {
         return 5;
     }
-    if !sets::has(s.objects, wide(object)) {
+    if !sets::has(s.objects, records::wide(object)) {
         return 7;
     }
     let k = object as usize;
@@ -143,7 +143,7 @@ fn row_fault(s: Scheme, object: u8, cells: [u32; 6]) -> u8
 }
 
 // The fault of a kind 5 or 6 of which the book has n before it.
-fn maximal_fault(s: Scheme, n: usize, set: u32) -> u8
+fn maximal_fault(s: Scheme, n: usize, set: ObjectSet) -> u8
     ensures { λ r. ⌜ r ≡ firstOf (maximalChecks s n set) ⌝ }
 {
     if n >= 8 {
@@ -187,9 +187,9 @@ fn nothing_declared() -> Scheme
     ensures { λ r. ⌜ r ≡ nothingDeclared ⌝ }
 {
     Scheme {
-        kinds: [0u8; 32],
+        kinds: [0u8; KINDS],
         attributes: 0,
-        sets: [0u32; 32],
+        sets: [0u32; OBJECTS as usize],
         objects: 0,
         left: [0u32; 64],
         right: [0u32; 64],
@@ -208,21 +208,21 @@ fn with_attribute(mut s: Scheme, id: u8, kind: u8) -> Scheme
 {
     let i = id as usize;
     s.kinds[i] = kind;
-    s.attributes = sets::insert(s.attributes, wide(id));
+    s.attributes = sets::insert(s.attributes, records::wide(id));
     s
 }
 
-fn with_object(mut s: Scheme, number: u8, set: u32) -> Scheme
+fn with_object(mut s: Scheme, number: u8, set: AttributeSet) -> Scheme
     requires { ⌜ number < 32 ⌝ }
     ensures { λ r. ⌜ r ≡ withObject s number set ⌝ }
 {
     let i = number as usize;
     s.sets[i] = set;
-    s.objects = sets::insert(s.objects, wide(number));
+    s.objects = sets::insert(s.objects, records::wide(number));
     s
 }
 
-fn with_dependency(mut s: Scheme, left: u32, right: u32) -> Scheme
+fn with_dependency(mut s: Scheme, left: AttributeSet, right: AttributeSet) -> Scheme
     requires { ⌜ s .dependencies < 64 ⌝ }
     ensures { λ r. ⌜ r ≡ withDependency s left right ⌝ }
 {
@@ -233,7 +233,7 @@ fn with_dependency(mut s: Scheme, left: u32, right: u32) -> Scheme
     s
 }
 
-fn with_declared(mut s: Scheme, set: u32) -> Scheme
+fn with_declared(mut s: Scheme, set: ObjectSet) -> Scheme
     requires { ⌜ s .declarations < 8 ⌝ }
     ensures { λ r. ⌜ r ≡ withDeclared s set ⌝ }
 {
@@ -243,7 +243,7 @@ fn with_declared(mut s: Scheme, set: u32) -> Scheme
     s
 }
 
-fn with_removed(mut s: Scheme, set: u32) -> Scheme
+fn with_removed(mut s: Scheme, set: ObjectSet) -> Scheme
     requires { ⌜ s .removals < 8 ⌝ }
     ensures { λ r. ⌜ r ≡ withRemoved s set ⌝ }
 {
@@ -356,7 +356,7 @@ pub struct Book {
     pub refusal: u8,
     pub rows: usize,
     pub scheme: Scheme,
-    pub maximal: [u32; 40],
+    pub maximal: [ObjectSet; 40],
     pub maximals: usize,
 }
 

@@ -71,7 +71,7 @@ pub enum Reading {
 const BODY_LENGTHS: [usize; 11] = [0, 2, 5, 8, 25, 4, 4, 2, 5, 7, 0];
 
 // A byte as a number of 32 bits.
-fn wide(b: u8) -> u32
+pub fn wide(b: u8) -> u32
     ensures { λ r. ⌜ (r ≡ b) × (r < 256) ⌝ }
 {
     b as u32

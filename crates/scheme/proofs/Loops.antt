@@ -19,7 +19,7 @@ use Rattle.sets.proofs.Members.{length-members}
 use Rattle.reduction.specs.Steps.{Family}
 use Rattle.reduction.specs.Kept.{union}
 use Rattle.reduction.specs.Packed.{padded, packed}
-use Rattle.reduction.specs.declared.KeptSets.{KeptSets}
+use Rattle.reduction.specs.declared.SetList.{SetList}
 use Rattle.scheme.specs.Dependencies.{Dependency, pass, closure}
 use Rattle.scheme.specs.Growing.{familyOf, attributesOf, joins, holding, round}
 use Rattle.scheme.specs.OfScheme.{pairs, Sides}
@@ -116,13 +116,13 @@ module _ {f : ℕ → ℕ} {s k count : ℕ} {out : List ℕ} (v : MembersSoFar 
   }
 
 pub members-end : {f : ℕ → ℕ} {s k count : ℕ} {out : List ℕ} → MembersSoFar f s k count out → 32 ≤ k
-    → _≡_ {A = KeptSets} (record { sets = out; count = count }) (packed (map f (members 32 s)))
+    → _≡_ {A = SetList} (record { sets = out; count = count }) (packed (map f (members 32 s)))
 members-end {f} {s} {k} v h =
     let e : k ≡ 32 = omega (arith, v .inside) in
     listing-packed (listing-same (v .listing) (ap (λ (n : ℕ). map f (members n s)) e) refl refl)
 
 -- the family of an object set as the code has it
-pub family-listing : (sets : List ℕ) (H : ℕ) {p : KeptSets} → p ≡ packed (familyOf sets H)
+pub family-listing : (sets : List ℕ) (H : ℕ) {p : SetList} → p ≡ packed (familyOf sets H)
     → Listing 32 (familyOf sets H) (p .count) (p .sets)
 unfolding familyOf
 family-listing sets H e = packed-listing e (length-given (λ j. getD sets j 0) H 32)

@@ -16,7 +16,7 @@ use Rattle.sets.proofs.Members.{members-only}
 use Rattle.reduction.specs.Steps.{Family}
 use Rattle.reduction.specs.Kept.{cutTo, maximal}
 use Rattle.reduction.specs.Packed.{padded, packed}
-use Rattle.reduction.specs.declared.KeptSets.{KeptSets}
+use Rattle.reduction.specs.declared.SetList.{SetList}
 use Rattle.scheme.specs.declared.Scheme.{Scheme}
 use Rattle.scheme.specs.declared.ObjectList.{ObjectList}
 use Rattle.scheme.specs.declared.MaximalList.{MaximalList}
@@ -72,11 +72,11 @@ module _ (D : List Dependency) (sets : List ℕ) (objects : ℕ) where
       let i = of-map (grown D sets objects) (members 32 objects) m in
       subst (λ (x : ℕ). x < 2 ^ 32) (sym (i .gives)) (grown-lt D sets objects (members-only 32 objects (i .there) .0))
 
-  pub grown-listing : {p : KeptSets} → p ≡ packed (allGrown D sets objects)
+  pub grown-listing : {p : SetList} → p ≡ packed (allGrown D sets objects)
       → Listing 32 (allGrown D sets objects) (p .count) (p .sets)
   grown-listing e = packed-listing e (length-given (grown D sets objects) objects 32)
 
-  pub computed-by : (p : KeptSets) (l : List ℕ) → p ≡ packed (allGrown D sets objects) → l ≡ take (p .count) (p .sets)
+  pub computed-by : (p : SetList) (l : List ℕ) → p ≡ packed (allGrown D sets objects) → l ≡ take (p .count) (p .sets)
       → packed (maximal (cutTo (2 ^ 32 - 1) l)) ≡ packed (computed D sets objects)
   unfolding computed
   computed-by p l e q =
@@ -84,7 +84,7 @@ module _ (D : List Dependency) (sets : List ℕ) (objects : ℕ) where
       (ap (cutTo (2 ^ 32 - 1)) (q ∙ listing-take (grown-listing e)) ∙ cut-to-all (allGrown D sets objects) all-grown-lt)
 
 module _ (s : Scheme) where
-  pub computed-of : {r : KeptSets} {n : ℕ} → length (s .left) ≡ 64 → n ≡ min (s .dependencies) 64
+  pub computed-of : {r : SetList} {n : ℕ} → length (s .left) ≡ 64 → n ≡ min (s .dependencies) 64
       → r ≡ packed (computed (pairs n (s .left) (s .right)) (s .sets) (s .objects)) → r ≡ packed (computedOf s)
   unfolding computedOf
   computed-of l e q =
@@ -98,7 +98,7 @@ module _ (s : Scheme) where
   length-found = length-computed (pairs (s .dependencies) (s .left) (s .right)) (s .sets) (s .objects)
 
   -- the computed list, read back out of its array
-  pub found-list : {p : KeptSets} {l : List ℕ} → p ≡ packed (computedOf s) → l ≡ take (p .count) (p .sets)
+  pub found-list : {p : SetList} {l : List ℕ} → p ≡ packed (computedOf s) → l ≡ take (p .count) (p .sets)
       → l ≡ computedOf s
   found-list e q = q ∙ listing-take (packed-listing e length-found)
 

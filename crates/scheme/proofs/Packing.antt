@@ -9,7 +9,7 @@ use native.Mathlib.Omega.{arith}
 use lib.ListN.{length, take, set, length-append}
 use Rattle.reduction.specs.Steps.{Family}
 use Rattle.reduction.specs.Packed.{padded, packed}
-use Rattle.reduction.specs.declared.KeptSets.{KeptSets}
+use Rattle.reduction.specs.declared.SetList.{SetList}
 use Rattle.scheme.specs.declared.ObjectList.{ObjectList}
 use Rattle.scheme.specs.OfScheme.{listed}
 
@@ -74,11 +74,11 @@ module _ {n : ℕ} {L : List ℕ} {count : ℕ} {out : List ℕ} (v : Listing n 
 
 -- ---- packed families
 
-pub packed-listing : {F : Family} {p : KeptSets} → p ≡ packed F → length F ≤ 32 → Listing 32 F (p .count) (p .sets)
+pub packed-listing : {F : Family} {p : SetList} → p ≡ packed F → length F ≤ 32 → Listing 32 F (p .count) (p .sets)
 unfolding packed
 packed-listing {F} {p} e h = record {
-  stored = ap (λ (x : KeptSets). x .sets) e;
-  counted = ap (λ (x : KeptSets). x .count) e ∙ whole;
+  stored = ap (λ (x : SetList). x .sets) e;
+  counted = ap (λ (x : SetList). x .count) e ∙ whole;
   fits = h;
 }
   where
@@ -86,10 +86,10 @@ packed-listing {F} {p} e h = record {
     whole = omega arith
 
 pub listing-packed : {F : Family} {count : ℕ} {out : List ℕ} → Listing 32 F count out
-    → _≡_ {A = KeptSets} (record { sets = out; count = count }) (packed F)
+    → _≡_ {A = SetList} (record { sets = out; count = count }) (packed F)
 unfolding packed
 listing-packed {F} v =
-    ap₂ {C = KeptSets} (λ (o : Family) (n : ℕ). record { sets = o; count = n }) (v .stored) (v .counted ∙ whole)
+    ap₂ {C = SetList} (λ (o : Family) (n : ℕ). record { sets = o; count = n }) (v .stored) (v .counted ∙ whole)
   where
     whole : length F ≡ min (length F) 32
     whole = omega (arith, v .fits)

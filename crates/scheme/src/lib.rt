@@ -13,22 +13,26 @@ ghost use Rattle.scheme.specs.Growing.{familyOf, attributesOf, round, gr
 ghost use Rattle.scheme.specs.MaximalObjects.{allGrown, computed, isOne, removing, adding, someUnmatched};
 ghost use Rattle.scheme.specs.MaximalObjects.{someCyclic};
 ghost use Rattle.scheme.specs.OfScheme.{pairs, Sides, listed, setsOf, HasRoom, computedOf, maximalListOf};
-use reduction::KeptSets;
+use reduction::SetList;
+use sets::ATTRIBUTES;
+use sets::AttributeSet;
+use sets::OBJECTS;
+use sets::ObjectSet;
 
 // What a book declares: the value kind of each attribute, the set of each object, the dependencies, the declared
 // maximal objects (kind 5) and those to be removed (kind 6), each array beside its count or the set of what is
 // declared. Places that nothing was declared for are 0.
 pub struct Scheme {
-    pub kinds: [u8; 32],
-    pub attributes: u32,
-    pub sets: [u32; 32],
-    pub objects: u32,
-    pub left: [u32; 64],
-    pub right: [u32; 64],
+    pub kinds: [u8; ATTRIBUTES as usize],
+    pub attributes: AttributeSet,
+    pub sets: [AttributeSet; OBJECTS as usize],
+    pub objects: ObjectSet,
+    pub left: [AttributeSet; 64],
+    pub right: [AttributeSet; 64],
     pub dependencies: usize,
-    pub declared: [u32; 8],
+    pub declared: [ObjectSet; 8],
     pub declarations: usize,
-    pub removed: [u32; 8],
+    pub removed: [ObjectSet; 8],
     pub removals: usize,
 }
 
@@ -40,7 +44,12 @@ fn first<'a>(list: &'a [u32], n: usize) -> &'a [u32]
 }
 
 // One pass: each dependency in turn whose left side is there adds its right side.
-fn pass<'a>(left: &'a [u32], right: &'a [u32], n: usize, attributes: u32) -> u32
+fn pass<'a>(
+    left: &'a [AttributeSet],
+    right: &'a [AttributeSet],
+    n: usize,
+    attributes: AttributeSet,
+) -> AttributeSet
     requires { ⌜ Sides n (now left) (now right) ⌝ }
     ensures { λ r. ⌜ r ≡ pass (pairs n (now (left .entry)) (now (right .entry))) attributes ⌝ }
 {
@@ -56,7 +65,12 @@ fn pass<'a>(left: &'a [u32], right: &'a [u32], n: usize, attributes: u32) -> u32
 }
 
 // The attributes that are determined by some: passes until nothing is added.
-pub fn closure<'a>(left: &'a [u32], right: &'a [u32], n: usize, attributes: u32) -> u32
+pub fn closure<'a>(
+    left: &'a [AttributeSet],
+    right: &'a [AttributeSet],
+    n: usize,
+    attributes: AttributeSet,
+) -> AttributeSet
     requires { ⌜ Sides n (now left) (now right) ⌝ }
     ensures { λ r. ⌜ r ≡ closure (pairs n (now (left .entry)) (now (right .entry))) attributes ⌝ }
 {
@@ -70,31 +84,31 @@ pub fn closure<'a>(left: &'a [u32], right: &'a [u32], n: usize, attributes: u32)
 }
 
 // The sets of some objects, ascending: the family of a maximal object.
-pub fn family_of(sets: &[u32], objects: u32) -> KeptSets
+pub fn family_of(sets: &[AttributeSet], objects: ObjectSet) -> SetList
     requires { ⌜ 32 ≤ length (now sets) ⌝ }
     ensures { λ r. ⌜ r ≡ packed (familyOf (now (sets .entry)) objects) ⌝ }
 {
-    let mut out = [0u32; 32];
+    let mut out = [0u32; reduction::PLACES];
     let mut count: usize = 0;
     let mut k: u32 = 0;
-    while k < 32 {
+    while k < OBJECTS {
         if sets::has(objects, k) {
             out[count] = sets[k as usize];
             count += 1;
         }
         k += 1;
     }
-    KeptSets { sets: out, count }
+    SetList { sets: out, count }
 }
 
 // The attributes of some objects.
-pub fn attributes_of(sets: &[u32], objects: u32) -> u32
+pub fn attributes_of(sets: &[AttributeSet], objects: ObjectSet) -> AttributeSet
     requires { ⌜ 32 ≤ length (now sets) ⌝ }
     ensures { λ r. ⌜ r ≡ attributesOf (now (sets .entry)) objects ⌝ }
 {
-    let mut all: u32 = 0;
+    let mut all: AttributeSet = 0;
     let mut k: u32 = 0;
-    while k < 32 {
+    while k < OBJECTS {
         if sets::has(objects, k) {
             all = sets::union(all, sets[k as usize]);
         }
@@ -104,7 +118,13 @@ pub fn attributes_of(sets: &[u32], objects: u32) -> u32
 }
 
 // Whether an object with set s has attributes which are determined by those it shares with the attributes held.
-fn is_determined<'a>(left: &'a [u32], right: &'a [u32], n: usize, s: u32, attributes: u32) -> bool
+fn is_determined<'a>(
+    left: &'a [AttributeSet],
+    right: &'a [AttributeSet],
+    n: usize,
+    s: AttributeSet,
+    attributes: AttributeSet,
+) -> bool
     requires { ⌜ Sides n (now left) (now right) ⌝ }
     ensures { λ r. ⌜ r ≡ within s (closure (pairs n (now (left .entry)) (now (right .entry))) (s ∩ attributes)) ⌝ }
 {
@@ -114,20 +134,20 @@ fn is_determined<'a>(left: &'a [u32], right: &'a [u32], n: usize, s: u32, attrib
 
 // One round: the objects that are held or can be held. The attributes held are found once.
 fn round<'a>(
-    left: &'a [u32],
-    right: &'a [u32],
+    left: &'a [AttributeSet],
+    right: &'a [AttributeSet],
     n: usize,
-    sets: &'a [u32],
-    objects: u32,
-    held: u32,
-) -> u32
+    sets: &'a [AttributeSet],
+    objects: ObjectSet,
+    held: ObjectSet,
+) -> ObjectSet
     requires { ⌜ (Sides n (now left) (now right)) × (32 ≤ length (now sets)) ⌝ }
     ensures { λ r. ⌜ r ≡ round (pairs n (now (left .entry)) (now (right .entry))) (now (sets .entry)) objects held ⌝ }
 {
     let attributes = attributes_of(sets, held);
-    let mut next: u32 = 0;
+    let mut next: ObjectSet = 0;
     let mut k: u32 = 0;
-    while k < 32 {
+    while k < OBJECTS {
         if sets::has(held, k) {
             next = sets::insert(next, k);
         } else if sets::has(objects, k) {
@@ -142,13 +162,13 @@ fn round<'a>(
 
 // The set grown from a start: rounds until no object joins.
 pub fn grow<'a>(
-    left: &'a [u32],
-    right: &'a [u32],
+    left: &'a [AttributeSet],
+    right: &'a [AttributeSet],
     n: usize,
-    sets: &'a [u32],
-    objects: u32,
+    sets: &'a [AttributeSet],
+    objects: ObjectSet,
     start: u32,
-) -> u32
+) -> ObjectSet
     requires { ⌜ (Sides n (now left) (now right)) × (32 ≤ length (now sets)) × (start < 32) ⌝ }
     ensures { λ r. ⌜ r ≡ grown (pairs n (now (left .entry)) (now (right .entry))) (now (sets .entry)) objects start ⌝ }
 {
@@ -163,36 +183,36 @@ pub fn grow<'a>(
 
 // The sets grown from each object, starts ascending.
 fn grown_sets<'a>(
-    left: &'a [u32],
-    right: &'a [u32],
+    left: &'a [AttributeSet],
+    right: &'a [AttributeSet],
     n: usize,
-    sets: &'a [u32],
-    objects: u32,
-) -> KeptSets
+    sets: &'a [AttributeSet],
+    objects: ObjectSet,
+) -> SetList
     requires { ⌜ (Sides n (now left) (now right)) × (32 ≤ length (now sets)) ⌝ }
     ensures { λ r. ⌜ r ≡ packed (allGrown (pairs n (now (left .entry)) (now (right .entry))) (now (sets .entry)) objects) ⌝ }
 {
-    let mut out = [0u32; 32];
+    let mut out = [0u32; reduction::PLACES];
     let mut count: usize = 0;
     let mut k: u32 = 0;
-    while k < 32 {
+    while k < OBJECTS {
         if sets::has(objects, k) {
             out[count] = grow(left, right, n, sets, objects, k);
             count += 1;
         }
         k += 1;
     }
-    KeptSets { sets: out, count }
+    SetList { sets: out, count }
 }
 
 // The grown sets without those properly inside another and without repeats.
 fn computed_sets<'a>(
-    left: &'a [u32],
-    right: &'a [u32],
+    left: &'a [AttributeSet],
+    right: &'a [AttributeSet],
     n: usize,
-    sets: &'a [u32],
-    objects: u32,
-) -> KeptSets
+    sets: &'a [AttributeSet],
+    objects: ObjectSet,
+) -> SetList
     requires { ⌜ (Sides n (now left) (now right)) × (32 ≤ length (now sets)) ⌝ }
     ensures { λ r. ⌜ r ≡ packed (computed (pairs n (now (left .entry)) (now (right .entry))) (now (sets .entry)) objects) ⌝ }
 {
@@ -201,7 +221,7 @@ fn computed_sets<'a>(
 }
 
 // Whether s is one of the list.
-fn is_one(list: &[u32], s: u32) -> bool
+fn is_one(list: &[ObjectSet], s: ObjectSet) -> bool
     ensures { λ r. ⌜ r ≡ isOne s (now (list .entry)) ⌝ }
 {
     let mut i: usize = 0;
@@ -215,7 +235,7 @@ fn is_one(list: &[u32], s: u32) -> bool
 }
 
 // Whether some named set is none of the list.
-fn some_unmatched<'a>(named: &'a [u32], list: &'a [u32]) -> bool
+fn some_unmatched<'a>(named: &'a [ObjectSet], list: &'a [ObjectSet]) -> bool
     ensures { λ r. ⌜ r ≡ someUnmatched (now (named .entry)) (now (list .entry)) ⌝ }
 {
     let mut i: usize = 0;
@@ -229,7 +249,7 @@ fn some_unmatched<'a>(named: &'a [u32], list: &'a [u32]) -> bool
 }
 
 // Whether the objects of m make a family with a cycle.
-fn is_cyclic(sets: &[u32], m: u32) -> bool
+fn is_cyclic(sets: &[AttributeSet], m: ObjectSet) -> bool
     requires { ⌜ 32 ≤ length (now sets) ⌝ }
     ensures { λ r. ⌜ r ≡ not (acyclic (familyOf (now (sets .entry)) m)) ⌝ }
 {
@@ -238,7 +258,7 @@ fn is_cyclic(sets: &[u32], m: u32) -> bool
 }
 
 // Whether some one of the list has a cycle.
-fn some_cyclic<'a>(sets: &'a [u32], list: &'a [u32]) -> bool
+fn some_cyclic<'a>(sets: &'a [AttributeSet], list: &'a [ObjectSet]) -> bool
     requires { ⌜ 32 ≤ length (now sets) ⌝ }
     ensures { λ r. ⌜ r ≡ someCyclic (now (sets .entry)) (now (list .entry)) ⌝ }
 {
@@ -254,12 +274,12 @@ fn some_cyclic<'a>(sets: &'a [u32], list: &'a [u32]) -> bool
 
 // A list of at most 40 sets; the places behind them are 0.
 pub struct ObjectList {
-    pub sets: [u32; 40],
+    pub sets: [ObjectSet; 40],
     pub count: usize,
 }
 
 // The list without the sets that are named.
-fn without_removed<'a>(list: &'a [u32], removed: &'a [u32]) -> ObjectList
+fn without_removed<'a>(list: &'a [ObjectSet], removed: &'a [ObjectSet]) -> ObjectList
     requires { ⌜ length (now list) ≤ 32 ⌝ }
     ensures { λ r. ⌜ r ≡ listed (removing (now (list .entry)) (now (removed .entry))) ⌝ }
 {
@@ -277,7 +297,7 @@ fn without_removed<'a>(list: &'a [u32], removed: &'a [u32]) -> ObjectList
 }
 
 // The list with each declared set at its end unless already there.
-fn with_declared(list: ObjectList, declared: &[u32]) -> ObjectList
+fn with_declared(list: ObjectList, declared: &[ObjectSet]) -> ObjectList
     requires { ⌜ HasRoom list (length (now declared)) ⌝ }
     ensures { λ r. ⌜ r ≡ listed (adding (setsOf list) (now (declared .entry))) ⌝ }
 {
@@ -302,7 +322,7 @@ fn at_most(count: usize, length: usize) -> usize
 }
 
 // The computed maximal objects of a scheme.
-pub fn computed(s: Scheme) -> KeptSets
+pub fn computed(s: Scheme) -> SetList
     ensures { λ r. ⌜ r ≡ packed (computedOf s) ⌝ }
 {
     let n = at_most(s.dependencies, 64);
@@ -312,7 +332,7 @@ pub fn computed(s: Scheme) -> KeptSets
 // The maximal objects of a scheme, at most 40, with the two faults: a set to be removed that equals no computed one,
 // and a maximal object with a cycle. The places behind the sets are 0.
 pub struct MaximalList {
-    pub sets: [u32; 40],
+    pub sets: [ObjectSet; 40],
     pub count: usize,
     pub unmatched: bool,
     pub cyclic: bool,

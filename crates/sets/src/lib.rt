@@ -5,7 +5,12 @@ ghost use Prim.Native.Nat.{_<_};
 ghost use Rattle.sets.specs.Sets.{has, within, _∩_, _∪_, _∖_, single, insert, remove, isEmpty};
 ghost use Rattle.sets.specs.Sets.{rank, count, lowest};
 
-// A set of attributes, and a set of objects.
+// Attributes are numbered from 0 on, and so are objects: how many of each there may be, and the sets of them. The functions
+// serve both, which are of one width.
+pub const ATTRIBUTES: u32 = 32;
+
+pub const OBJECTS: u32 = 32;
+
 pub type AttributeSet = u32;
 
 pub type ObjectSet = u32;
