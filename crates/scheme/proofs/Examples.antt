@@ -1,5 +1,5 @@
 -- Worked examples: what the definitions give beside what the paper says, in one list under one theorem.
--- In order: document 000's banking scheme, three objects in a ring, the trials.
+-- In order: document 000's banking scheme, three objects in a ring, two objects that do not join, the trials.
 -- Assumes nothing.
 use mathlib.Core.Path.{_≡_, refl}
 use mathlib.Core.Bool.{true, false}
@@ -48,6 +48,12 @@ abbrev ring : ℕ → List ℕ
 ring objects =
     elim (someCyclic ringSets (maximalObjects ringDependencies ringSets objects [] [])) [ true ↦ 9 ∷ [] | false ↦ [] ]
 
+-- ---- two objects that do not join: AB and AC with B to C. They share A, which does not determine C, though all that AB
+-- has does
+
+abbrev apart : List ℕ
+apart = maximalObjects (record { left = 2; right = 4 } ∷ []) (3 ∷ 5 ∷ []) 3 [] []
+
 -- ---- the trials
 
 pub record Trial : Type 0 where
@@ -63,6 +69,8 @@ trials =
     ∷ record { gives = banking otherDependencies [] []; says = 15 ∷ 88 ∷ 96 ∷ [] }
     ∷ record { gives = map (count 32) (banking otherDependencies [] []); says = 4 ∷ 3 ∷ 2 ∷ [] }
     ∷ record { gives = banking otherDependencies (96 ∷ 127 ∷ 88 ∷ []) (88 ∷ 15 ∷ 88 ∷ []); says = 96 ∷ 127 ∷ 88 ∷ [] }
+    ∷ record { gives = banking otherDependencies (127 ∷ 1 ∷ 127 ∷ 88 ∷ []) []; says = 15 ∷ 88 ∷ 96 ∷ 127 ∷ 1 ∷ [] }
+    ∷ record { gives = apart; says = 1 ∷ 2 ∷ [] }
     ∷ record { gives = ring 7; says = 9 ∷ [] }
     ∷ record { gives = ring 15; says = [] }
     ∷ []

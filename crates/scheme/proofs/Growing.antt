@@ -15,7 +15,7 @@ use Rattle.sets.specs.Sets.{_∈_, _∉_, _⊆_, has, _∩_, insert, single, me
 use Rattle.sets.proofs.Tests.{yes-or-no, yes-no, and-yes, yes-and, or-left, or-right, yes-or}
 use Rattle.sets.proofs.Bits.{in-out, member-or-not, member-lt, lt-of-members}
 use Rattle.sets.proofs.Sets.{has-yes, yes-has, ∪-left, ∪-cases, single-in, in-single, insert-in, ⊆-refl, ⊆-trans}
-use Rattle.sets.proofs.Sets.{∩-mono, ∪-⊆}
+use Rattle.sets.proofs.Sets.{∩-in, ∩-left, ∩-right, ∩-mono, ∪-⊆}
 use Rattle.sets.proofs.Sets.{⊆-∪-left, within-yes, yes-within, ⊆-lt, ∩-lt, ∪-lt, single-lt, zero-out, ext}
 use Rattle.sets.proofs.Members.{members-has, members-only}
 use Rattle.reduction.specs.Statements.{OfAttributes, StandsIn}
@@ -23,9 +23,9 @@ use Rattle.reduction.proofs.Left.{union-⊇, in-union}
 use Rattle.scheme.specs.Dependencies.{Dependency, closure}
 use Rattle.scheme.specs.Growing.{familyOf, attributesOf, joins, NoneJoins, LeastGrown, Holding, ended, hold}
 use Rattle.scheme.specs.Growing.{holding, round, rounds, grown}
-use Rattle.scheme.specs.Statements.{Bounded, GrownInEveryOrder}
+use Rattle.scheme.specs.Statements.{Bounded, Shared, JoinsByTheRule, GrownInEveryOrder}
 use Rattle.scheme.proofs.Repeating.{Repeats, Grows, EndsIn, repeats-⊆, repeats-ends}
-use Rattle.scheme.proofs.Closing.{closure-mono}
+use Rattle.scheme.proofs.Closing.{closure-least, closure-mono}
 
 -- ---- the attributes held
 
@@ -62,6 +62,19 @@ set-lt : (sets : List ℕ) → OfAttributes sets → (k : ℕ) → getD sets k 0
 set-lt [] o k = pow-pos 32
 set-lt (s ∷ sets) o zero = o .bounded s (List·Memᴰ·head refl)
 set-lt (s ∷ sets) o (suc k) = set-lt sets (record { bounded = λ t m. o .bounded t (List·Memᴰ·tail m) }) k
+
+-- an attribute held is one of an object's that is held, and the other way round
+held-of : (sets : List ℕ) (H : ℕ) {a : ℕ} → a ∈ attributesOf sets H → (j : ℕ) × (j ∈ H) × (a ∈ getD sets j 0)
+unfolding attributesOf familyOf
+held-of sets H {a} i =
+    let s = in-union (familyOf sets H) i in
+    let p = of-map (λ k. getD sets k 0) (members 32 H) (s .there) in
+    (p .of, members-only 32 H (p .there) .1, subst (λ (u : ℕ). a ∈ u) (p .gives) (s .held))
+
+of-held : (sets : List ℕ) {H j a : ℕ} → H < 2 ^ 32 → j ∈ H → a ∈ getD sets j 0 → a ∈ attributesOf sets H
+unfolding attributesOf familyOf
+of-held sets {H} l i m =
+    union-⊇ (map-in (λ k. getD sets k 0) (members-has 32 (member-lt 32 l i) i)) .each m
 
 module _ (D : List Dependency) (sets : List ℕ) (objects : ℕ) where
   -- ---- one round
@@ -145,6 +158,28 @@ module _ (D : List Dependency) (sets : List ℕ) (objects : ℕ) where
         within-yes (⊆-trans (yes-within s (closure D (s ∩ attributesOf sets H)) e)
         (closure-mono D (o .dependencies) (∩-lt (attributesOf sets K) 32 (set-lt sets (o .attributes) k))
         (∩-mono s (attributes-mono sets h))))
+
+    -- there is one least closed set around the attributes shared, the closure
+    pub joins-by-the-rule : {H : ℕ} → H < 2 ^ 32 → (k : ℕ) → JoinsByTheRule D sets H k
+    unfolding joins
+    joins-by-the-rule {H} h k =
+        let s : ℕ = getD sets k 0 in
+        let A : ℕ = s ∩ attributesOf sets H in
+        let c = closure-least D (o .dependencies) (∩-lt (attributesOf sets H) 32 (set-lt sets (o .attributes) k)) in
+        record {
+          shares = A;
+          isShared = λ a. (λ i. shared-of i, λ w. ∩-in (w .own) (of-held sets h (w .held) (w .theirs)));
+          exactly = λ C l. (
+            λ e. ⊆-trans (yes-within s (closure D A) e) (c .least C (l .around) (l .closed)),
+            λ i. within-yes (⊆-trans i (l .least (closure D A) (c .around) (c .closed))),
+          );
+          some = (closure D A, c);
+        }
+      where
+        shared-of : {a : ℕ} → a ∈ getD sets k 0 ∩ attributesOf sets H → Shared sets H k a
+        shared-of i =
+            let w = held-of sets H (∩-right (getD sets k 0) (attributesOf sets H) i) in
+            record { own = ∩-left (getD sets k 0) (attributesOf sets H) i; holder = w .0; held = w .1; theirs = w .2 }
 
     -- a set that no object joins keeps what grows inside it
     joins-inside : {H S : ℕ} → NoneJoins D sets objects S → H ⊆ S → (k : ℕ) → k ∈ objects → joins D sets H k ≡ true

@@ -3,7 +3,7 @@
 -- Assumes nothing.
 use mathlib.Core.Path.{_≡_, refl, sym, ap, _∙_, subst}
 use mathlib.Core.Logic.{⊎-elim}
-use mathlib.Core.List.{List, [], _∷_, map, List·Memᴰ}
+use mathlib.Core.List.{List, [], _∷_, map, List·Memᴰ, List·Memᴰ·append-cases}
 use Prim.Native.Nat.{ℕ, zero, suc, _≤_, _<_}
 use native.Mathlib.Nat.{le-refl, not-suc-le-zero, le-of-suc-le-suc, le-of-lt, eq-or-lt-of-le, lt-of-le-of-lt}
 use native.Mathlib.Nat.{lt-of-lt-of-le}
@@ -24,6 +24,7 @@ use Rattle.scheme.specs.Statements.{Bounded, LowestStart, ComputedList, 
 use Rattle.scheme.proofs.KeptOrder.{KeptAt, kept-at, kept-in-order, kept-first, lies-in-kept, kept-widest}
 use Rattle.scheme.proofs.KeptOrder.{length-kept}
 use Rattle.scheme.proofs.Growing.{map-in, grown-least, grown-⊆}
+use Rattle.scheme.proofs.Lists.{leaves-out-in}
 use Rattle.scheme.proofs.Removals.{removal, addition, length-removing, length-adding}
 
 -- ---- the computed list
@@ -153,15 +154,31 @@ module _ (D : List Dependency) (sets : List ℕ) (objects : ℕ) where
           ⊎-elim (λ c. computed-objects (removal removed (computed D sets objects) .wasThere M c)) (λ d. h M d)
           (addition (removing (computed D sets objects) removed) declared .fromEither M m)
 
+      -- a declared set that does not stay is added
+      added-in : (M : ℕ) → List·Memᴰ M declared → (List·Memᴰ M (removing (computed D sets objects) removed) → ⊥)
+          → List·Memᴰ M (addition (removing (computed D sets objects) removed) declared .ends)
+      added-in M d n =
+          let l = removing (computed D sets objects) removed in
+          let r = addition l declared in
+          ⊎-elim (λ i. absurd (n i)) (λ i. i)
+          (List·Memᴰ·append-cases l (subst (List·Memᴰ M) (r .atTheEnd) (r .there M d)))
+
       pub maximal-object-list : MaximalObjectList D sets objects declared removed
       unfolding maximalObjects
       maximal-object-list =
           let l = removing (computed D sets objects) removed in
+          let out = removal removed (computed D sets objects) in
+          let r = addition l declared in
           record {
+            staying = l;
+            added = r .ends;
+            whole = r .atTheEnd;
+            stays = λ M. (λ m. (out .wasThere M m, out .notNamed M m), λ p. out .stays M (p .0) (p .1));
+            stayInOrder = out .ordered;
+            adds = λ M. (λ m. (leaves-out-in (r .ordered) m, r .new M m), λ p. added-in M (p .0) (p .1));
+            addedInOrder = r .byFirstPlace;
             someObjects = some-objects;
-            noneTwice =
-                addition l declared .noneTwice
-                (removal removed (computed D sets objects) .noneTwice (computed-list .noneTwice));
+            noneTwice = r .noneTwice (out .noneTwice (computed-list .noneTwice));
             atMost = omega (
               arith,
               length-adding l declared,

@@ -1,5 +1,5 @@
 -- What removals and declarations make of a list, and the two faults.
--- In order: one of a list, removals, declarations, the two faults.
+-- In order: one of a list, removals, declarations, first places, the two faults.
 -- Assumes nothing.
 use mathlib.Core.Path.{_≡_, refl, sym, ap, _∙_, subst}
 use mathlib.Core.Bool.{Bool, true, false, not}
@@ -7,17 +7,20 @@ use mathlib.Core.Logic.{_⊎_, inl, inr, ⊎-elim}
 use mathlib.Core.List.{List, [], _∷_, _++_, append-assoc, append-nil, List·Memᴰ, List·Memᴰ·head, List·Memᴰ·tail}
 use mathlib.Core.List.{List·Memᴰ·not-nil, List·Memᴰ·append-cases, List·Memᴰ·eq-of-singleton, Memᴰ·append-left}
 use mathlib.Core.List.{Memᴰ·append-right}
-use Prim.Native.Nat.{ℕ, _+_, _≤_}
+use Prim.Native.Nat.{ℕ, zero, suc, _+_, _≤_, _<_, suc-le-suc}
+use native.Mathlib.Nat.{not-suc-le-zero, le-of-suc-le-suc, zero-lt-suc, lt-trans}
 use native.Mathlib.Omega.{arith}
 use lib.Dec.{eqb}
 use lib.ListN.{length, length-append}
 use borrow.Author.Tests.{eq-eqb, eqb-true, not-true, not-false}
 use Rattle.sets.proofs.Tests.{not-yes, yes-no}
-use Rattle.reduction.specs.Steps.{NoneTwice}
+use Rattle.reduction.specs.Steps.{at, NoneTwice}
 use Rattle.reduction.specs.Kept.{acyclic}
+use Rattle.reduction.proofs.Places.{mem-at}
 use Rattle.scheme.specs.Growing.{familyOf}
 use Rattle.scheme.specs.MaximalObjects.{isOne, removing, adding, someUnmatched, someCyclic}
-use Rattle.scheme.specs.Statements.{LeavesOut, ended, kept, out, Removal, Addition, UnmatchedFault, CyclicFault}
+use Rattle.scheme.specs.Statements.{LeavesOut, ended, kept, out, Removal, FirstPlace, ByFirstPlace, Addition}
+use Rattle.scheme.specs.Statements.{UnmatchedFault, CyclicFault}
 use Rattle.scheme.proofs.Lists.{Asks, Passes, some-yes, yes-some, some-no, no-some}
 use Rattle.scheme.proofs.Lists.{none-twice-snoc, leaves-out-in, leaves-out-length, leaves-out-once}
 
@@ -110,21 +113,75 @@ unfolding adding
 adding-new s l declared n =
     ap (λ (b : Bool). elim b [ true ↦ adding l declared | false ↦ adding (l ++ s ∷ []) declared ]) n
 
+-- ---- first places
+
+first-place-here : {t a : ℕ} {l : List ℕ} → FirstPlace (t ∷ l) t a → a ≡ 0
+first-place-here {a = zero} p = refl
+first-place-here {a = suc a} p = absurd (p .first 0 (zero-lt-suc a) refl)
+
+-- behind another set, places count from that one on
+first-place-behind : {t M b : ℕ} {l : List ℕ} → (M ≡ t → ⊥) → FirstPlace (t ∷ l) M b
+    → (a : ℕ) × (b ≡ suc a) × FirstPlace l M a
+first-place-behind {b = zero} n p = absurd (n (sym (p .holds)))
+first-place-behind {b = suc a} n p = (
+  a,
+  refl,
+  record {
+    there = le-of-suc-le-suc (p .there);
+    holds = p .holds;
+    first = λ i h e. p .first (suc i) (suc-le-suc h) e;
+  },
+)
+
+module _ {t : ℕ} {ends declared : List ℕ} (other : (s : ℕ) → List·Memᴰ s ends → s ≡ t → ⊥)
+    (o : ByFirstPlace ends declared) where
+  -- the place of an entry of ends behind t
+  behind : {j b : ℕ} → j < length ends → FirstPlace (t ∷ declared) (at ends j) b
+      → (a : ℕ) × (b ≡ suc a) × FirstPlace declared (at ends j) a
+  behind {j} h p = first-place-behind (other (at ends j) (mem-at ends j h)) p
+
+  by-first-place-there : ByFirstPlace ends (t ∷ declared)
+  by-first-place-there = record { before = before }
+    where
+      before : (i j a b : ℕ) → i < j → j < length ends → FirstPlace (t ∷ declared) (at ends i) a
+          → FirstPlace (t ∷ declared) (at ends j) b → a < b
+      before i j a b h l p q =
+          let x = behind (lt-trans h l) p in
+          let y = behind l q in
+          let less = o .before i j (x .0) (y .0) h l (x .2) (y .2) in
+          omega (arith, x .1, y .1)
+
+  by-first-place-new : ByFirstPlace (t ∷ ends) (t ∷ declared)
+  by-first-place-new = record { before = before }
+    where
+      before : (i j a b : ℕ) → i < j → j < length (t ∷ ends) → FirstPlace (t ∷ declared) (at (t ∷ ends) i) a
+          → FirstPlace (t ∷ declared) (at (t ∷ ends) j) b → a < b
+      before i zero a b h l p q = absurd (not-suc-le-zero h)
+      before zero (suc j) a b h l p q =
+          let y = behind (le-of-suc-le-suc l) q in omega (arith, first-place-here p, y .1)
+      before (suc i) (suc j) a b h l p q =
+          by-first-place-there .before i j a b (le-of-suc-le-suc h) (le-of-suc-le-suc l) p q
+
 addition-there : {l declared : List ℕ} {t : ℕ} → isOne t l ≡ true → Addition l declared → Addition l (t ∷ declared)
 addition-there {l} {declared} {t} y r =
     let e = adding-there t l declared y in
     record {
       ends = r .ends;
       atTheEnd = e ∙ r .atTheEnd;
+      new = r .new;
       ordered = out t (r .ordered);
+      byFirstPlace = by-first-place-there (λ s m q. r .new s m (isOne-eq q)) (r .byFirstPlace);
       stays = λ s m. subst (List·Memᴰ s) (sym e) (r .stays s m);
       there = λ s m. subst (List·Memᴰ s) (sym e) (there s m);
       fromEither = λ s m. ⊎-elim inl (λ d. inr (List·Memᴰ·tail d)) (r .fromEither s (subst (List·Memᴰ s) e m));
       noneTwice = λ n. subst NoneTwice (sym e) (r .noneTwice n);
     }
   where
+    isOne-eq : {s : ℕ} → s ≡ t → List·Memᴰ s l
+    isOne-eq q = subst (λ (x : ℕ). List·Memᴰ x l) (sym q) (yes-isOne t l y)
+
     there : (s : ℕ) → List·Memᴰ s (t ∷ declared) → List·Memᴰ s (adding l declared)
-    there s (List·Memᴰ·head q) = r .stays s (subst (λ (x : ℕ). List·Memᴰ x l) (sym q) (yes-isOne t l y))
+    there s (List·Memᴰ·head q) = r .stays s (isOne-eq q)
     there s (List·Memᴰ·tail m) = r .there s m
 
 addition-new : {l declared : List ℕ} {t : ℕ} → isOne t l ≡ false → Addition (l ++ t ∷ []) declared
@@ -134,7 +191,10 @@ addition-new {l} {declared} {t} x r =
     record {
       ends = t ∷ r .ends;
       atTheEnd = e ∙ r .atTheEnd ∙ append-assoc l (t ∷ []) (r .ends);
+      new = λ s m. new s m;
       ordered = kept t (r .ordered);
+      byFirstPlace =
+          by-first-place-new (λ s m q. r .new s m (Memᴰ·append-right l (List·Memᴰ·head q))) (r .byFirstPlace);
       stays = λ s m. subst (List·Memᴰ s) (sym e) (r .stays s (Memᴰ·append-left (t ∷ []) m));
       there = λ s m. subst (List·Memᴰ s) (sym e) (there s m);
       fromEither = λ s m. ⊎-elim (from s) (λ d. inr (List·Memᴰ·tail d)) (r .fromEither s (subst (List·Memᴰ s) e m));
@@ -145,6 +205,10 @@ addition-new {l} {declared} {t} x r =
     there s (List·Memᴰ·head q) = r .stays s (Memᴰ·append-right l (List·Memᴰ·head q))
     there s (List·Memᴰ·tail m) = r .there s m
 
+    new : (s : ℕ) → List·Memᴰ s (t ∷ r .ends) → List·Memᴰ s l → ⊥
+    new s (List·Memᴰ·head q) i = no-isOne t l x (subst (λ (z : ℕ). List·Memᴰ z l) q i)
+    new s (List·Memᴰ·tail m) i = r .new s m (Memᴰ·append-left (t ∷ []) i)
+
     from : (s : ℕ) → List·Memᴰ s (l ++ t ∷ []) → List·Memᴰ s l ⊎ List·Memᴰ s (t ∷ declared)
     from s m = ⊎-elim inl (λ h. inr (List·Memᴰ·head (List·Memᴰ·eq-of-singleton h))) (List·Memᴰ·append-cases l m)
 
@@ -153,7 +217,9 @@ unfolding adding
 addition l [] = record {
   ends = [];
   atTheEnd = sym (append-nil l);
+  new = λ s m. absurd (List·Memᴰ·not-nil m);
   ordered = ended;
+  byFirstPlace = record { before = λ i j a b h l. absurd (not-suc-le-zero l) };
   stays = λ s m. m;
   there = λ s m. absurd (List·Memᴰ·not-nil m);
   fromEither = λ s m. inl m;

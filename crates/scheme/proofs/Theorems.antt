@@ -6,11 +6,11 @@ use Prim.Native.Nat.{ℕ, _^_, _<_}
 use Rattle.sets.specs.Sets.{_∈_, _⊆_}
 use Rattle.scheme.specs.Dependencies.{Dependency, LeastClosed, closure}
 use Rattle.scheme.specs.Growing.{LeastGrown, grown}
-use Rattle.scheme.specs.Statements.{DeterminesAttributes, Bounded, GrownInEveryOrder, ComputedList, Removal}
-use Rattle.scheme.specs.Statements.{Addition}
+use Rattle.scheme.specs.Statements.{DeterminesAttributes, Bounded, JoinsByTheRule, GrownInEveryOrder}
+use Rattle.scheme.specs.Statements.{ComputedList, Removal, Addition}
 use Rattle.scheme.specs.Statements.{UnmatchedFault, CyclicFault, MaximalObjectList}
 use Rattle.scheme.proofs.Closing.{closure-least, closure-mono}
-use Rattle.scheme.proofs.Growing.{grown-least, grown-in-every-order}
+use Rattle.scheme.proofs.Growing.{joins-by-the-rule, grown-least, grown-in-every-order}
 use Rattle.scheme.proofs.Removals.{removal, addition, unmatched-fault, cyclic-fault}
 use Rattle.scheme.proofs.MaximalObjects.{computed-list, maximal-object-list}
 
@@ -27,6 +27,9 @@ closure-is-monotone D o A B h s = closure-mono D o h s
 -- ---- grown sets
 
 module _ (D : List Dependency) (sets : List ℕ) (objects : ℕ) (o : Bounded D sets objects) where
+  pub object-joins-by-the-rule : (H : ℕ) → H < 2 ^ 32 → (k : ℕ) → JoinsByTheRule D sets H k
+  object-joins-by-the-rule H h k = joins-by-the-rule D sets objects o h k
+
   pub grown-is-least : (start : ℕ) → start ∈ objects → LeastGrown D sets objects start (grown D sets objects start)
   grown-is-least start i = grown-least D sets objects o i
 

@@ -1,19 +1,19 @@
 -- What is proved of closures, grown sets and the list of maximal objects. The proofs are in `proofs/Theorems.antt`.
--- In order: what a scheme has, growing in every order, the computed list, removals and declarations, the two faults,
--- the list of maximal objects.
+-- In order: what a scheme has, when an object joins, growing in every order, the computed list, removals and
+-- declarations, the two faults, the list of maximal objects.
 -- Assumes nothing.
 use mathlib.Core.Path.{_≡_}
 use mathlib.Core.Bool.{true, false}
-use mathlib.Core.Logic.{_⊎_}
+use mathlib.Core.Logic.{_⊎_, _↔_}
 use mathlib.Core.List.{List, [], _∷_, _++_, List·Memᴰ}
 use Prim.Native.Nat.{ℕ, _+_, _^_, _≤_, _<_}
-use lib.ListN.{length}
+use lib.ListN.{length, getD}
 use Rattle.sets.specs.Sets.{_∈_, _⊆_, single}
 use Rattle.reduction.specs.Steps.{at, NoneTwice}
 use Rattle.reduction.specs.Kept.{acyclic}
 use Rattle.reduction.specs.Statements.{OfAttributes, LiesIn}
-use Rattle.scheme.specs.Dependencies.{Dependency}
-use Rattle.scheme.specs.Growing.{familyOf, Holding, grown}
+use Rattle.scheme.specs.Dependencies.{Dependency, LeastClosed}
+use Rattle.scheme.specs.Growing.{familyOf, joins, Holding, grown}
 use Rattle.scheme.specs.MaximalObjects.{computed, removing, adding, maximalObjects, someUnmatched, someCyclic}
 
 -- ---- what a scheme has: attributes and objects 0 to 31
@@ -26,6 +26,24 @@ pub record Bounded (D : List Dependency) (sets : List ℕ) (objects : ℕ) : Typ
   pub dependencies : DeterminesAttributes D
   pub attributes : OfAttributes sets
   pub declared : objects < 2 ^ 32
+
+-- ---- when an object joins
+
+-- attribute a is one of those that object k "shares with the attributes held": it is one of k's and one of an object's
+-- that is held
+pub record Shared (sets : List ℕ) (H k a : ℕ) : Type 0 where
+  pub own : a ∈ getD sets k 0
+  pub holder : ℕ
+  pub held : holder ∈ H
+  pub theirs : a ∈ getD sets holder 0
+
+-- an object joins exactly if it "has attributes which are determined, by closure under the dependencies, by those it
+-- shares with the attributes held": they lie in the least closed set around those, and there is one
+pub record JoinsByTheRule (D : List Dependency) (sets : List ℕ) (H k : ℕ) : Type 0 where
+  pub shares : ℕ
+  pub isShared : (a : ℕ) → (a ∈ shares) ↔ Shared sets H k a
+  pub exactly : (C : ℕ) → LeastClosed D shares C → (joins D sets H k ≡ true) ↔ (getD sets k 0 ⊆ C)
+  pub some : (C : ℕ) × LeastClosed D shares C
 
 -- ---- growing in every order
 
@@ -70,11 +88,24 @@ pub record Removal (l named : List ℕ) : Type 0 where
   pub ordered : LeavesOut (removing l named) l
   pub noneTwice : NoneTwice l → NoneTwice (removing l named)
 
--- "kind 5 adds its set at the end unless already there"
+-- a is the first place of M in the list
+pub record FirstPlace (l : List ℕ) (M a : ℕ) : Type 0 where
+  pub there : a < length l
+  pub holds : at l a ≡ M
+  pub first : (i : ℕ) → i < a → at l i ≡ M → ⊥
+
+-- the list has its sets in the order of their first places in the second one
+pub record ByFirstPlace (l declared : List ℕ) : Type 0 where
+  pub before : (i j a b : ℕ) → i < j → j < length l → FirstPlace declared (at l i) a → FirstPlace declared (at l j) b
+      → a < b
+
+-- "kind 5 adds its set at the end unless already there": of sets declared twice the first is added
 pub record Addition (l declared : List ℕ) : Type 0 where
   pub ends : List ℕ
   pub atTheEnd : adding l declared ≡ l ++ ends
+  pub new : (s : ℕ) → List·Memᴰ s ends → List·Memᴰ s l → ⊥
   pub ordered : LeavesOut ends declared
+  pub byFirstPlace : ByFirstPlace ends declared
   pub stays : (s : ℕ) → List·Memᴰ s l → List·Memᴰ s (adding l declared)
   pub there : (s : ℕ) → List·Memᴰ s declared → List·Memᴰ s (adding l declared)
   pub fromEither : (s : ℕ) → List·Memᴰ s (adding l declared) → List·Memᴰ s l ⊎ List·Memᴰ s declared
@@ -103,8 +134,17 @@ pub record SomeObjects (objects M : ℕ) : Type 0 where
   pub filled : (k : ℕ) × (k ∈ M)
   pub inside : M ⊆ objects
 
+-- the list is the computed sets that are not removed, in their order, then the declared ones that are not among them,
+-- each at its first place
 pub record MaximalObjectList (D : List Dependency) (sets : List ℕ) (objects : ℕ)
     (declared removed : List ℕ) : Type 0 where
+  pub staying : List ℕ
+  pub added : List ℕ
+  pub whole : maximalObjects D sets objects declared removed ≡ staying ++ added
+  pub stays : (M : ℕ) → List·Memᴰ M staying ↔ (List·Memᴰ M (computed D sets objects) × (List·Memᴰ M removed → ⊥))
+  pub stayInOrder : LeavesOut staying (computed D sets objects)
+  pub adds : (M : ℕ) → List·Memᴰ M added ↔ (List·Memᴰ M declared × (List·Memᴰ M staying → ⊥))
+  pub addedInOrder : ByFirstPlace added declared
   pub someObjects : ((M : ℕ) → List·Memᴰ M declared → SomeObjects objects M)
       → (M : ℕ) → List·Memᴰ M (maximalObjects D sets objects declared removed) → SomeObjects objects M
   pub noneTwice : NoneTwice (maximalObjects D sets objects declared removed)
