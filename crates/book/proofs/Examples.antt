@@ -1,10 +1,10 @@
 -- Worked examples: what reading gives beside what the paper says, in one list under one theorem.
--- In order: the unit's book, three objects in a ring, small books, the trials.
+-- In order: the unit's book, three objects in a ring, small books, the trials, what books declare, tables.
 -- Assumes nothing.
 use mathlib.Core.Path.{_≡_, refl}
-use mathlib.Core.List.{List, [], _∷_, _++_, map}
+use mathlib.Core.List.{List, [], _∷_, _++_, map, flatMap}
 use Prim.Native.Nat.{ℕ}
-use lib.ListN.{length}
+use lib.ListN.{length, take}
 use Rattle.sets.specs.Sets.{bit, has, within, _∩_, _∪_, _∖_, single, isEmpty, rank, members}
 use Rattle.values.specs.Values.{inRange}
 use Rattle.reduction.specs.Kept.{union, around, someHolds, removable, stays, staying, settle, left, acyclic, goesFor}
@@ -14,7 +14,8 @@ use Rattle.records.specs.Records.{isKind, bodyLengths, bodyLength, kindOf, byte
 use Rattle.records.specs.Reader.{bodies, recordOf, readFront, readAt}
 use Rattle.records.specs.declared.Record.{Record}
 use Rattle.records.specs.declared.Record.the-variants.{Attribute, Object, Dependency, Row, Declared, Removed, Item}
-use Rattle.relation.specs.Tables.{cellOf}
+use Rattle.relation.specs.Tables.{cellOf, Table}
+use Rattle.scheme.specs.declared.Scheme.{Scheme}
 use Rattle.scheme.specs.Dependencies.{pass, passes, closure}
 use Rattle.scheme.specs.Growing.{familyOf, attributesOf, joins, holding, rounds, grown}
 use Rattle.scheme.specs.MaximalObjects.{computed, isOne, removing, adding, maximalObjects, someUnmatched, someCyclic}
@@ -25,6 +26,7 @@ use Rattle.book.specs.Declaring.{nothingDeclared, withAttribute, withObj
 use Rattle.book.specs.Declaring.{withRemoved, declare}
 use Rattle.book.specs.Reading.{Outcome, isRow, withRow, shortFault, readFrom, records, lastFault, afterLast}
 use Rattle.book.specs.Reading.{lastNumber, read, maximalsOf}
+use Rattle.book.specs.TablesOf.{cellsOf, rowOf, rowsOf, tablesOf}
 
 -- ---- the unit's book: "attributes 0 STATION, 1 LEAD, 2 TRIP (names), 3 DEPTH (length); objects 0 {0,1}, 1 {0,2}, 2
 -- {0,3}; dependencies {0} to {2} and {0} to {3}. Rows: object 0 (10,501) (11,502) (12,503); object 1 (10,7) (11,7)
@@ -56,6 +58,14 @@ unfoldable pub eight : List Record
 eight =
     angles
     ++ Declared 1 ∷ Declared 1 ∷ Declared 1 ∷ Declared 1 ∷ Declared 1 ∷ Declared 1 ∷ Declared 1 ∷ Declared 1 ∷ []
+
+-- one record or two of each kind that declares something: attributes of all four value kinds, not in order
+unfoldable pub mixed : List Record
+mixed =
+    Attribute 4 0 ∷ Attribute 1 2 ∷ Attribute 0 3 ∷ Attribute 2 1
+    ∷ Object 3 19 ∷ Object 1 6
+    ∷ Dependency 1 2 ∷ Dependency 4 16
+    ∷ Declared 8 ∷ Declared 10 ∷ Removed 2 ∷ []
 
 -- ---- the trials
 
@@ -97,3 +107,65 @@ unfolding trials survey ring angles eight result read afterLast lastFault lastNu
     kindOf bodyLength bodyLengths isKind field value bytes keptOf keeps goes goesFor acyclic left settle staying stays
     removable someHolds around union inRange members rank isEmpty single _∖_ _∪_ _∩_ within has bit
 trials-hold = refl
+
+-- ---- what books declare: the value kinds, the objects' sets, both sides of the dependencies, the kind 5 and kind 6 sets,
+-- each with a place more; the sets of attributes and objects and the counts; the positions of the rows
+
+unfoldable pub declares : List Record → List (List ℕ)
+declares rs =
+    let o : Outcome = read (bytesOfAll rs) in
+    let s : Scheme = o .scheme in
+    take 6 (s .kinds) ∷ take 5 (s .sets) ∷ take 3 (s .left) ∷ take 3 (s .right) ∷ take 3 (s .declared)
+    ∷ take 2 (s .removed)
+    ∷ (s .attributes ∷ s .objects ∷ s .dependencies ∷ s .declarations ∷ s .removals ∷ [])
+    ∷ o .rows ∷ []
+
+-- ---- tables: for each object of M its set, then its rows
+
+unfoldable pub tables : List Record → ℕ → List (List ℕ)
+tables rs M =
+    let b : List ℕ = bytesOfAll rs in
+    flatMap (λ (T : Table). (T .set ∷ []) ∷ T .rows) (tablesOf b (read b) M)
+
+-- a row of two cells: "cells not needed are zero"
+abbrev pair : ℕ → ℕ → List ℕ
+pair a c = a ∷ c ∷ 0 ∷ 0 ∷ 0 ∷ 0 ∷ []
+
+pub record Layout : Type 0 where
+  pub gives : List (List ℕ)
+  pub says : List (List ℕ)
+
+-- the unit's book, with -2500 and -900 in two's complement, and the mixed one
+unfoldable pub layouts : List Layout
+layouts =
+    record {
+      gives = declares survey;
+      says =
+          (0 ∷ 0 ∷ 0 ∷ 1 ∷ 0 ∷ 0 ∷ []) ∷ (3 ∷ 5 ∷ 9 ∷ 0 ∷ 0 ∷ []) ∷ (1 ∷ 1 ∷ 0 ∷ []) ∷ (4 ∷ 8 ∷ 0 ∷ [])
+          ∷ (0 ∷ 0 ∷ 0 ∷ []) ∷ (0 ∷ 0 ∷ []) ∷ (15 ∷ 7 ∷ 2 ∷ 0 ∷ 0 ∷ [])
+          ∷ (48 ∷ 74 ∷ 100 ∷ 126 ∷ 152 ∷ 178 ∷ 204 ∷ 230 ∷ []) ∷ [];
+    }
+    ∷ record {
+      gives = tables survey 7;
+      says =
+          (3 ∷ []) ∷ pair 10 501 ∷ pair 11 502 ∷ pair 12 503
+          ∷ (5 ∷ []) ∷ pair 10 7 ∷ pair 11 7 ∷ pair 13 7
+          ∷ (9 ∷ []) ∷ pair 10 4294964796 ∷ pair 12 4294966396 ∷ [];
+    }
+    ∷ record {
+      gives = declares mixed;
+      says =
+          (3 ∷ 2 ∷ 1 ∷ 0 ∷ 0 ∷ 0 ∷ []) ∷ (0 ∷ 6 ∷ 0 ∷ 19 ∷ 0 ∷ []) ∷ (1 ∷ 4 ∷ 0 ∷ []) ∷ (2 ∷ 16 ∷ 0 ∷ [])
+          ∷ (8 ∷ 10 ∷ 0 ∷ []) ∷ (2 ∷ 0 ∷ []) ∷ (23 ∷ 10 ∷ 2 ∷ 2 ∷ 1 ∷ []) ∷ [] ∷ [];
+    }
+    ∷ []
+
+pub layouts-hold : map (λ l. l .gives) layouts ≡ map (λ l. l .says) layouts
+unfolding layouts declares tables flatMap tablesOf rowsOf rowOf cellsOf survey mixed read afterLast lastFault lastNumber records
+    readFrom shortFault withRow isRow declare withRemoved withDeclared withDependency withObject withAttribute
+    nothingDeclared faultOf checks maximalChecks rowChecks wrongCells someOutside someNonZero firstOf ofBook cyclicOf
+    unmatchedOf maximalOf computedOf pairs someCyclic someUnmatched maximalObjects adding removing isOne computed grown
+    rounds holding joins attributesOf familyOf closure passes pass cellOf readAt readFront recordOf bodies bytesOfAll
+    bytesOf kindOf bodyLength bodyLengths isKind field value bytes keptOf keeps goes goesFor acyclic left settle staying
+    stays removable someHolds around union inRange members rank isEmpty single _∖_ _∪_ _∩_ within has bit
+layouts-hold = refl

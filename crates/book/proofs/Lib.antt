@@ -8,6 +8,7 @@ pub mod Conditions
 pub mod Outcomes
 pub mod WellFormed
 pub mod TablesOf
+pub mod RecordsSay
 pub mod Books
 pub mod Theorems
 pub mod Examples

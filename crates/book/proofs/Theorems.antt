@@ -21,8 +21,8 @@ use Rattle.scheme.proofs.Theorems.{cyclic-is-a-fault}
 use Rattle.book.specs.Reading.{Outcome, read}
 use Rattle.book.specs.Accepting.{Accepted, none, AtLast, good}
 use Rattle.book.specs.Conditions.{First, conditions}
-use Rattle.book.specs.Statements.{FaultMeans, ReadExactly, StopsWith, NumberMeans, SchemeWellFormed, TablesOfBook}
-use Rattle.book.specs.Statements.{MaximalObjectsOfBook}
+use Rattle.book.specs.Statements.{FaultMeans, ReadExactly, StopsWith, NumberMeans, AcceptedSay, RowInBytes}
+use Rattle.book.specs.Statements.{SchemeWellFormed, TablesOfBook, MaximalObjectsOfBook}
 use Rattle.book.specs.TablesOf.{tablesOf}
 use Rattle.book.proofs.Conditions.{fault-first, first-fault}
 use Rattle.book.proofs.Outcomes.{read-over, read-stops, stops-read, number-at-most, number-over, number-not-one}
@@ -30,6 +30,8 @@ use Rattle.book.proofs.Outcomes.{number-within, number-faulty, faulty-n
 use Rattle.book.proofs.Outcomes.{good-last}
 use Rattle.book.proofs.WellFormed.{accepted-well-formed, family-of-attributes, maximal-some}
 use Rattle.book.proofs.TablesOf.{tables-family, tables-in-range}
+use Rattle.book.proofs.RecordsSay.{accepted-scheme-said, accepted-rows-said, table-said, row-whole}
+use Rattle.book.proofs.RecordsSay.{row-in-bytes-is, row-in-tables}
 
 -- ---- the fault of a record
 
@@ -71,6 +73,23 @@ number-means b = record {
     λ e. let h = number-within b (λ z. omega arith) in (h, number-whole b 9 (inr (omega arith)) h e),
     λ p. whole-number b 9 (p .0) (p .1),
   );
+}
+
+-- ---- what accepted records say
+
+pub accepted-say : (b : List ℕ) (rs : List Record) (o : Outcome) (at : ℕ) → Accepted b rs (o .scheme) (o .rows) at
+    → AcceptedSay b rs o at
+accepted-say b rs o at a = record {
+  scheme = accepted-scheme-said a;
+  rows = accepted-rows-said a;
+  tables = λ M k h i. table-said o (accepted-rows-said a) M h i;
+}
+
+pub row-in-bytes : (b : List ℕ) (at : ℕ) → RowInBytes b at
+row-in-bytes b at = record {
+  whole = λ k r next row e w. row-whole b at e w;
+  inBytes = λ k r next row e w. row-in-bytes-is b at e w;
+  inTables = λ k r next row e w. row-in-tables b at e w;
 }
 
 -- ---- the scheme

@@ -58,7 +58,7 @@ one-more : {A : Type 0} {P : A → Type 0} (l : List A) (x : A) → ((y : A) →
 one-more {P = P} l x h p y m =
     ⊎-elim (λ m′. h y m′) (λ m′. subst P (sym (List·Memᴰ·eq-of-singleton m′)) p) (List·Memᴰ·append-cases l m)
 
-take-more : (l : List ℕ) (n x : ℕ) → n < length l → take (n + 1) (set l n x) ≡ take n l ++ x ∷ []
+pub take-more : (l : List ℕ) (n x : ℕ) → n < length l → take (n + 1) (set l n x) ≡ take n l ++ x ∷ []
 take-more l n x h = ap (λ (k : ℕ). take k (set l n x)) (add-one n) ∙ take-suc-set l n x h
 
 pairs-suc : (n : ℕ) (ls rs : List ℕ) (l r : ℕ) → n < length ls → n < length rs
@@ -71,7 +71,7 @@ pairs-suc (suc n) (x ∷ ls) (y ∷ rs) l r h k =
     ap (λ (t : List Dependencies.Dependency). record { left = x; right = y } ∷ t)
     (pairs-suc n ls rs l r (le-of-suc-le-suc h) (le-of-suc-le-suc k))
 
-pairs-more : (n : ℕ) (ls rs : List ℕ) (l r : ℕ) → n < length ls → n < length rs
+pub pairs-more : (n : ℕ) (ls rs : List ℕ) (l r : ℕ) → n < length ls → n < length rs
     → pairs (n + 1) (set ls n l) (set rs n r) ≡ pairs n ls rs ++ record { left = l; right = r } ∷ []
 pairs-more n ls rs l r h k = ap (λ (m : ℕ). pairs m (set ls n l) (set rs n r)) (add-one n) ∙ pairs-suc n ls rs l r h k
 

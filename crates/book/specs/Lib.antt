@@ -6,4 +6,5 @@ pub mod Accepting
 pub mod Conditions
 pub mod WellFormed
 pub mod TablesOf
+pub mod RecordsSay
 pub mod Statements

@@ -1,17 +1,20 @@
 -- What is proved of reading a book, for every list of bytes. The proofs are in `proofs/Theorems.antt`.
--- In order: the fault of a record, where reading stops, the number, the scheme, the tables and maximal objects of a
--- good book.
+-- In order: the fault of a record, where reading stops, the number, what accepted records say, the scheme, the tables
+-- and maximal objects of a good book.
 -- Assumes nothing.
 use mathlib.Core.Path.{_≡_}
 use mathlib.Core.Bool.{true}
 use mathlib.Core.Logic.{_↔_}
-use mathlib.Core.List.{List, [], List·Memᴰ}
-use Prim.Native.Nat.{ℕ, _≤_, _<_}
+use mathlib.Core.List.{List, [], _∷_, List·Memᴰ}
+use Prim.Native.Nat.{ℕ, _+_, _≤_, _<_}
 use lib.ListN.{length}
-use Rattle.sets.specs.Sets.{_∈_, _⊆_}
+use Rattle.sets.specs.Sets.{_∈_, _⊆_, rank}
 use Rattle.reduction.specs.Kept.{acyclic}
+use Rattle.records.specs.Reader.{readAt}
 use Rattle.records.specs.declared.Record.{Record}
-use Rattle.relation.specs.Tables.{Row, Table, family}
+use Rattle.records.specs.declared.Reading.the-variants.{Found}
+use Rattle.relation.specs.BookRows as BookRows
+use Rattle.relation.specs.Tables.{Row, Table, tableAt, family}
 use Rattle.relation.specs.Demand3.{Demand3}
 use Rattle.scheme.specs.declared.Scheme.{Scheme}
 use Rattle.scheme.specs.Growing.{familyOf, attributesOf}
@@ -23,7 +26,9 @@ use Rattle.book.specs.Reading.{Outcome, read}
 use Rattle.book.specs.Accepting.{Accepted, Faulty, AtLast, Stops}
 use Rattle.book.specs.Conditions.{First, conditions}
 use Rattle.book.specs.WellFormed.{WellFormed}
+use Rattle.book.specs.TablesOf as TablesOf
 use Rattle.book.specs.TablesOf.{tablesOf, InRange}
+use Rattle.book.specs.RecordsSay.{SaysRow, SchemeSaid, RowsSaid, TableSaid}
 
 -- ---- the fault of a record
 
@@ -75,6 +80,24 @@ pub record NumberMeans (b : List ℕ) : Type 0 where
   pub zero : (read b .number ≡ 0) ↔ ((length b ≤ 65536) × AcceptedWhole b 0)
   pub eight : (read b .number ≡ 8) ↔ ((length b ≤ 65536) × AcceptedWhole b 8)
   pub nine : (read b .number ≡ 9) ↔ ((length b ≤ 65536) × AcceptedWhole b 9)
+
+-- ---- what accepted records say
+
+-- the scheme, the positions of the rows and the tables hold the fields of the accepted records, in their order, all of
+-- them and no other; what no record declared is not there
+pub record AcceptedSay (b : List ℕ) (rs : List Record) (o : Outcome) (at : ℕ) : Type 0 where
+  pub scheme : SchemeSaid rs (o .scheme)
+  pub rows : RowsSaid b rs (o .rows) at
+  pub tables : (M k : ℕ) → k < 32 → k ∈ M → TableSaid rs (o .scheme) k (tableAt (tablesOf b o M) (rank M k))
+
+-- the row that a record says is the one that `relation` reads in its bytes and the one that a table has of it
+pub record RowInBytes (b : List ℕ) (at : ℕ) : Type 0 where
+  pub whole : (k : ℕ) (r : Record) (next : ℕ) (row : Row) → readAt b at ≡ Found r next → SaysRow k r row
+      → at + 26 ≤ length b
+  pub inBytes : (k : ℕ) (r : Record) (next : ℕ) (row : Row) → readAt b at ≡ Found r next → SaysRow k r row
+      → BookRows.rowOf b at ≡ row
+  pub inTables : (k : ℕ) (r : Record) (next : ℕ) (row : Row) → readAt b at ≡ Found r next → SaysRow k r row
+      → TablesOf.rowOf k (readAt b at) ≡ BookRows.rowOf b at ∷ []
 
 -- ---- the scheme
 

@@ -1,0 +1,534 @@
+-- The scheme, the positions and the rows of accepted records are what the records say, by induction on the records accepted.
+-- In order: one record more, records of other kinds, the scheme, the rows, the tables, the row of a record in bytes.
+-- Assumes nothing.
+use mathlib.Core.Path.{_≡_, refl, sym, ap, _∙_, subst}
+use mathlib.Core.Bool.{Bool, true, false}
+use mathlib.Core.Logic.{_⊎_, inl, inr, ⊎-elim, _↔_}
+use mathlib.Core.List.{List, [], _∷_, _++_, map, append-nil, append-assoc, List·Memᴰ, List·Memᴰ·head, List·Memᴰ·not-nil}
+use mathlib.Core.List.{List·Memᴰ·append-cases, List·Memᴰ·eq-of-singleton, Memᴰ·append-left, Memᴰ·append-right}
+use Prim.Native.Nat.{ℕ, zero, suc, _+_, _≤_, _<_}
+use native.Mathlib.Nat.{add-zero, zero-add, not-suc-le-zero, le-of-suc-le-suc}
+use native.Mathlib.Omega.{arith}
+use borrow.Author.Tests.{eq-eqb, ne-eqb}
+use lib.Dec.{eqb}
+use lib.ListN.{length, getD, drop, set, length-append}
+use lib.Seq.{getD-set-same, getD-set-other}
+use Rattle.sets.specs.Sets.{_∈_, _∉_, insert, single, rank, members}
+use Rattle.sets.proofs.Bits.{in-out, not-in}
+use Rattle.sets.proofs.Numbers.{eq-or-ne}
+use Rattle.sets.proofs.Ranks.{rank-lt}
+use Rattle.sets.proofs.Members.{length-members, getD-members}
+use Rattle.sets.proofs.Sets.{∪-cases, ∪-left, in-single, insert-in, zero-out}
+use Rattle.records.specs.Fields.{field}
+use Rattle.records.specs.Records.{bodyLengths, bodyLength, kindOf, bytesOf, bytesOfAll}
+use Rattle.records.specs.Reader.{bodies, recordOf, readAt, Reads, done, more}
+use Rattle.records.specs.declared.Record.{Record}
+use Rattle.records.specs.declared.Record.the-variants.{Attribute, Object, Dependency, Row, Declared, Removed, Item}
+use Rattle.records.specs.declared.Record.the-variants.{CompareTwo, CompareConstant, End}
+use Rattle.records.specs.declared.Reading.the-variants.{Found}
+use Rattle.records.proofs.Fields.{field-drop}
+use Rattle.records.proofs.Reader.{whole-readAt}
+use Rattle.records.proofs.Theorems.{kind-then-body}
+use Rattle.relation.specs.Tables as Tables
+use Rattle.relation.specs.BookRows as BookRows
+use Rattle.scheme.specs.declared.Scheme.{Scheme}
+use Rattle.scheme.specs.OfScheme.{pairs, dependenciesOf, declaredOf, removedOf}
+use Rattle.book.specs.Faults.{faultOf}
+use Rattle.book.specs.Declaring.{nothingDeclared, declare, withAttribute, withObject, withDependency, withDeclared}
+use Rattle.book.specs.Declaring.{withRemoved}
+use Rattle.book.specs.Reading.{Outcome, isRow, withRow}
+use Rattle.book.specs.Accepting.{Accepted, none, one}
+use Rattle.book.specs.WellFormed.{WellFormed}
+use Rattle.book.specs.TablesOf.{cellsOf, rowOf, rowsOf, tablesOf}
+use Rattle.book.specs.RecordsSay.{Gathered, ended, taken, passedOver, SaysDependency, SaysDeclared, SaysRemoved}
+use Rattle.book.specs.RecordsSay.{SaysRow, ByNumber, ZeroFrom, SchemeSaid, RowsAt, behindLast, row, noRow, RowsSaid}
+use Rattle.book.specs.RecordsSay.{TableSaid}
+use Rattle.book.proofs.Lists.{getD-zeros}
+use Rattle.book.proofs.Declaring.{NewAttribute, NewObject, NewDependency, NewMaximal, attribute-accepted}
+use Rattle.book.proofs.Declaring.{object-accepted, dependency-accepted, declared-accepted, removed-accepted}
+use Rattle.book.proofs.WellFormed.{take-more, pairs-more, accepted-well-formed}
+
+-- ---- one record more
+
+module _ {A : Type 0} (Says : Record → A → Type 0) (r : Record) where
+  gathered-more : {rs : List Record} (x : A) {xs : List A} → Says r x → Gathered Says rs xs
+      → Gathered Says (rs ++ r ∷ []) (xs ++ x ∷ [])
+  gathered-more x w ended = taken w ended
+  gathered-more x w (taken v g) = taken v (gathered-more x w g)
+  gathered-more x w (passedOver n g) = passedOver n (gathered-more x w g)
+
+  gathered-same : {rs : List Record} {xs : List A} → ((x : A) → Says r x → ⊥) → Gathered Says rs xs
+      → Gathered Says (rs ++ r ∷ []) xs
+  gathered-same n ended = passedOver n ended
+  gathered-same n (taken v g) = taken v (gathered-same n g)
+  gathered-same n (passedOver m g) = passedOver m (gathered-same n g)
+
+module _ {says : ℕ → ℕ → Record} {rs : List Record} {numbers : ℕ} {fields : List ℕ}
+    (k : ByNumber says rs numbers fields) where
+  -- a record of a number that is not declared yet
+  by-number-more : (j w : ℕ) → ((i v : ℕ) → says i v ≡ says j w → (i ≡ j) × (v ≡ w)) → j ∉ numbers → j < length fields
+      → ByNumber says (rs ++ says j w ∷ []) (insert numbers j) (set fields j w)
+  by-number-more j w same new room = record { exactly = λ i v. (said i v, says-so i v); nothingElse = nothing-else }
+    where
+      here : getD (set fields j w) j 0 ≡ w
+      here = getD-set-same fields j w 0 room
+
+      apart : {i : ℕ} → i ∈ numbers → i ≡ j → ⊥
+      apart m e = in-out (subst (λ (x : ℕ). x ∈ numbers) e m) new
+
+      said : (i v : ℕ) → List·Memᴰ (says i v) (rs ++ says j w ∷ [])
+          → (i ∈ insert numbers j) × (getD (set fields j w) i 0 ≡ v)
+      said i v m = ⊎-elim older newest (List·Memᴰ·append-cases rs m)
+        where
+          older : List·Memᴰ (says i v) rs → (i ∈ insert numbers j) × (getD (set fields j w) i 0 ≡ v)
+          older p =
+              let q = k .exactly i v .0 p in
+              (∪-left (single j) (q .0), getD-set-other fields j i w 0 (apart (q .0)) ∙ q .1)
+
+          newest : List·Memᴰ (says i v) (says j w ∷ []) → (i ∈ insert numbers j) × (getD (set fields j w) i 0 ≡ v)
+          newest p =
+              let q = same i v (List·Memᴰ·eq-of-singleton p) in (
+                subst (λ (x : ℕ). x ∈ insert numbers j) (sym (q .0)) (insert-in numbers j),
+                ap (λ (x : ℕ). getD (set fields j w) x 0) (q .0) ∙ here ∙ sym (q .1),
+              )
+
+      says-so : (i v : ℕ) → (i ∈ insert numbers j) × (getD (set fields j w) i 0 ≡ v)
+          → List·Memᴰ (says i v) (rs ++ says j w ∷ [])
+      says-so i v p = ⊎-elim older (λ m. newest (in-single m)) (∪-cases numbers (single j) (p .0))
+        where
+          older : i ∈ numbers → List·Memᴰ (says i v) (rs ++ says j w ∷ [])
+          older m =
+              Memᴰ·append-left (says j w ∷ [])
+              (k .exactly i v .1 (m, sym (getD-set-other fields j i w 0 (apart m)) ∙ p .1))
+
+          newest : i ≡ j → List·Memᴰ (says i v) (rs ++ says j w ∷ [])
+          newest e =
+              let f : v ≡ w = sym (p .1) ∙ ap (λ (x : ℕ). getD (set fields j w) x 0) e ∙ here in
+              Memᴰ·append-right rs (List·Memᴰ·head (ap (λ (x : ℕ). says x v) e ∙ ap (says j) f))
+
+      nothing-else : (i : ℕ) → i ∉ insert numbers j → getD (set fields j w) i 0 ≡ 0
+      nothing-else i o =
+          getD-set-other fields j i w 0
+          (λ e. in-out (subst (λ (x : ℕ). x ∈ insert numbers j) (sym e) (insert-in numbers j)) o)
+          ∙ k .nothingElse i (not-in (λ m. in-out (∪-left (single j) m) o))
+
+  -- a record that says nothing of this kind
+  by-number-same : {r : Record} → ((i v : ℕ) → says i v ≡ r → ⊥) → ByNumber says (rs ++ r ∷ []) numbers fields
+  by-number-same {r} n = record {
+    exactly = λ i v. (
+      λ m. k .exactly i v .0
+          (⊎-elim (λ p. p) (λ p. absurd (n i v (List·Memᴰ·eq-of-singleton p))) (List·Memᴰ·append-cases rs m)),
+      λ p. Memᴰ·append-left (r ∷ []) (k .exactly i v .1 p),
+    );
+    nothingElse = k .nothingElse;
+  }
+
+zero-from-set : (n : ℕ) (l : List ℕ) (x : ℕ) → ZeroFrom n l → ZeroFrom (n + 1) (set l n x)
+zero-from-set n l x z i h = getD-set-other l n i x 0 (λ e. omega arith) ∙ z i (omega arith)
+
+-- ---- records of other kinds
+
+-- what a record of another kind does not say
+module _ (r : Record) where
+  no-attribute : (kindOf r ≡ 1 → ⊥) → (i v : ℕ) → Attribute i v ≡ r → ⊥
+  unfolding kindOf
+  no-attribute n i v e = n (ap kindOf (sym e))
+
+  no-object : (kindOf r ≡ 2 → ⊥) → (i v : ℕ) → Object i v ≡ r → ⊥
+  unfolding kindOf
+  no-object n i v e = n (ap kindOf (sym e))
+
+  no-dependency : (kindOf r ≡ 3 → ⊥) → (d : _) → SaysDependency r d → ⊥
+  unfolding kindOf
+  no-dependency n d e = n (ap kindOf e)
+
+  no-declared : (kindOf r ≡ 5 → ⊥) → (M : ℕ) → SaysDeclared r M → ⊥
+  unfolding kindOf
+  no-declared n M e = n (ap kindOf e)
+
+  no-removed : (kindOf r ≡ 6 → ⊥) → (M : ℕ) → SaysRemoved r M → ⊥
+  unfolding kindOf
+  no-removed n M e = n (ap kindOf e)
+
+  no-row : (kindOf r ≡ 4 → ⊥) → (k : ℕ) (cells : Tables.Row) → SaysRow k r cells → ⊥
+  unfolding kindOf
+  no-row n k cells w = n (ap kindOf (w .isRow))
+
+-- ---- the scheme
+
+nothing-said : SchemeSaid [] nothingDeclared
+unfolding nothingDeclared pairs
+nothing-said = record {
+  attributes = record {
+    exactly = λ i v. (λ m. absurd (List·Memᴰ·not-nil m), λ p. absurd (in-out (p .0) (zero-out i)));
+    nothingElse = λ i o. getD-zeros 32 i;
+  };
+  objects = record {
+    exactly = λ i v. (λ m. absurd (List·Memᴰ·not-nil m), λ p. absurd (in-out (p .0) (zero-out i)));
+    nothingElse = λ i o. getD-zeros 32 i;
+  };
+  dependencies = ended;
+  declared = ended;
+  removed = ended;
+  leftBehind = λ i h. getD-zeros 64 i;
+  rightBehind = λ i h. getD-zeros 64 i;
+  declaredBehind = λ i h. getD-zeros 8 i;
+  removedBehind = λ i h. getD-zeros 8 i;
+}
+
+-- what a record says nothing of stays as it is; its kind is not the one of those records
+module _ (r : Record) {rs : List Record} {s : Scheme} (v : SchemeSaid rs s) where
+  same-attributes : (kindOf r ≡ 1 → ⊥) → ByNumber Attribute (rs ++ r ∷ []) (s .attributes) (s .kinds)
+  same-attributes n = by-number-same (v .attributes) (no-attribute r n)
+
+  same-objects : (kindOf r ≡ 2 → ⊥) → ByNumber Object (rs ++ r ∷ []) (s .objects) (s .sets)
+  same-objects n = by-number-same (v .objects) (no-object r n)
+
+  same-dependencies : (kindOf r ≡ 3 → ⊥) → Gathered SaysDependency (rs ++ r ∷ []) (dependenciesOf s)
+  same-dependencies n = gathered-same SaysDependency r (no-dependency r n) (v .dependencies)
+
+  same-declared : (kindOf r ≡ 5 → ⊥) → Gathered SaysDeclared (rs ++ r ∷ []) (declaredOf s)
+  same-declared n = gathered-same SaysDeclared r (no-declared r n) (v .declared)
+
+  same-removed : (kindOf r ≡ 6 → ⊥) → Gathered SaysRemoved (rs ++ r ∷ []) (removedOf s)
+  same-removed n = gathered-same SaysRemoved r (no-removed r n) (v .removed)
+
+  -- a record of another kind than 1, 2, 3, 5 and 6 leaves the scheme as it is
+  says-nothing : (kindOf r ≡ 4) ⊎ (7 ≤ kindOf r) → SchemeSaid (rs ++ r ∷ []) s
+  says-nothing late = record {
+    attributes = same-attributes (λ e. ⊎-elim (λ z. omega arith) (λ z. omega arith) late);
+    objects = same-objects (λ e. ⊎-elim (λ z. omega arith) (λ z. omega arith) late);
+    dependencies = same-dependencies (λ e. ⊎-elim (λ z. omega arith) (λ z. omega arith) late);
+    declared = same-declared (λ e. ⊎-elim (λ z. omega arith) (λ z. omega arith) late);
+    removed = same-removed (λ e. ⊎-elim (λ z. omega arith) (λ z. omega arith) late);
+    leftBehind = v .leftBehind;
+    rightBehind = v .rightBehind;
+    declaredBehind = v .declaredBehind;
+    removedBehind = v .removedBehind;
+  }
+
+module _ {rs : List Record} {s : Scheme} (w : WellFormed s) (v : SchemeSaid rs s) where
+  attribute-said : (id kind : ℕ) → NewAttribute s id kind
+      → SchemeSaid (rs ++ Attribute id kind ∷ []) (withAttribute s id kind)
+  unfolding withAttribute kindOf
+  attribute-said id kind n =
+      let r = Attribute id kind in
+      record {
+        attributes =
+            by-number-more (v .attributes) id kind (λ i x e. (cc, cc)) (n .new) (omega (arith, n .below, w .arrays .kinds));
+        objects = same-objects r v (λ e. omega arith);
+        dependencies = same-dependencies r v (λ e. omega arith);
+        declared = same-declared r v (λ e. omega arith);
+        removed = same-removed r v (λ e. omega arith);
+        leftBehind = v .leftBehind;
+        rightBehind = v .rightBehind;
+        declaredBehind = v .declaredBehind;
+        removedBehind = v .removedBehind;
+      }
+
+  object-said : (number attributes : ℕ) → NewObject s number attributes
+      → SchemeSaid (rs ++ Object number attributes ∷ []) (withObject s number attributes)
+  unfolding withObject kindOf
+  object-said number attributes n =
+      let r = Object number attributes in
+      record {
+        attributes = same-attributes r v (λ e. omega arith);
+        objects =
+            by-number-more (v .objects) number attributes (λ i x e. (cc, cc)) (n .new)
+            (omega (arith, n .below, w .arrays .sets));
+        dependencies = same-dependencies r v (λ e. omega arith);
+        declared = same-declared r v (λ e. omega arith);
+        removed = same-removed r v (λ e. omega arith);
+        leftBehind = v .leftBehind;
+        rightBehind = v .rightBehind;
+        declaredBehind = v .declaredBehind;
+        removedBehind = v .removedBehind;
+      }
+
+  dependency-said : (left right : ℕ) → NewDependency s left right
+      → SchemeSaid (rs ++ Dependency left right ∷ []) (withDependency s left right)
+  unfolding withDependency kindOf
+  dependency-said left right n =
+      let r = Dependency left right in
+      record {
+        attributes = same-attributes r v (λ e. omega arith);
+        objects = same-objects r v (λ e. omega arith);
+        dependencies =
+            subst (Gathered SaysDependency (rs ++ r ∷ []))
+            (sym (pairs-more (s .dependencies) (s .left) (s .right) left right
+            (omega (arith, n .room, w .arrays .left)) (omega (arith, n .room, w .arrays .right))))
+            (gathered-more SaysDependency r (record { left = left; right = right }) refl (v .dependencies));
+        declared = same-declared r v (λ e. omega arith);
+        removed = same-removed r v (λ e. omega arith);
+        leftBehind = zero-from-set (s .dependencies) (s .left) left (v .leftBehind);
+        rightBehind = zero-from-set (s .dependencies) (s .right) right (v .rightBehind);
+        declaredBehind = v .declaredBehind;
+        removedBehind = v .removedBehind;
+      }
+
+  declared-said : (M : ℕ) → NewMaximal s (s .declarations) M → SchemeSaid (rs ++ Declared M ∷ []) (withDeclared s M)
+  unfolding withDeclared kindOf
+  declared-said M n =
+      let r = Declared M in
+      record {
+        attributes = same-attributes r v (λ e. omega arith);
+        objects = same-objects r v (λ e. omega arith);
+        dependencies = same-dependencies r v (λ e. omega arith);
+        declared =
+            subst (Gathered SaysDeclared (rs ++ r ∷ []))
+            (sym (take-more (s .declared) (s .declarations) M (omega (arith, n .room, w .arrays .declared))))
+            (gathered-more SaysDeclared r M refl (v .declared));
+        removed = same-removed r v (λ e. omega arith);
+        leftBehind = v .leftBehind;
+        rightBehind = v .rightBehind;
+        declaredBehind = zero-from-set (s .declarations) (s .declared) M (v .declaredBehind);
+        removedBehind = v .removedBehind;
+      }
+
+  removed-said : (M : ℕ) → NewMaximal s (s .removals) M → SchemeSaid (rs ++ Removed M ∷ []) (withRemoved s M)
+  unfolding withRemoved kindOf
+  removed-said M n =
+      let r = Removed M in
+      record {
+        attributes = same-attributes r v (λ e. omega arith);
+        objects = same-objects r v (λ e. omega arith);
+        dependencies = same-dependencies r v (λ e. omega arith);
+        declared = same-declared r v (λ e. omega arith);
+        removed =
+            subst (Gathered SaysRemoved (rs ++ r ∷ []))
+            (sym (take-more (s .removed) (s .removals) M (omega (arith, n .room, w .arrays .removed))))
+            (gathered-more SaysRemoved r M refl (v .removed));
+        leftBehind = v .leftBehind;
+        rightBehind = v .rightBehind;
+        declaredBehind = v .declaredBehind;
+        removedBehind = zero-from-set (s .removals) (s .removed) M (v .removedBehind);
+      }
+
+  declare-said : (r : Record) → faultOf s r ≡ 0 → SchemeSaid (rs ++ r ∷ []) (declare s r)
+  unfolding declare kindOf
+  declare-said (Attribute id kind) f = attribute-said id kind (attribute-accepted s id kind f)
+  declare-said (Object number set) f = object-said number set (object-accepted s number set f)
+  declare-said (Dependency left right) f = dependency-said left right (dependency-accepted s left right f)
+  declare-said (Row object c0 c1 c2 c3 c4 c5) f = says-nothing (Row object c0 c1 c2 c3 c4 c5) v (inl refl)
+  declare-said (Declared set) f = declared-said set (declared-accepted s set f)
+  declare-said (Removed set) f = removed-said set (removed-accepted s set f)
+  declare-said (Item variable attribute) f = says-nothing (Item variable attribute) v (inr (omega arith))
+  declare-said (CompareTwo variable attribute operator variable2 attribute2) f =
+      says-nothing (CompareTwo variable attribute operator variable2 attribute2) v (inr (omega arith))
+  declare-said (CompareConstant variable attribute operator cell) f =
+      says-nothing (CompareConstant variable attribute operator cell) v (inr (omega arith))
+  declare-said End f = says-nothing End v (inr (omega arith))
+
+pub accepted-scheme-said : {b : List ℕ} {rs : List Record} {s : Scheme} {rows : List ℕ} {at : ℕ}
+    → Accepted b rs s rows at → SchemeSaid rs s
+accepted-scheme-said none = nothing-said
+accepted-scheme-said (one {r = r} a e f) = declare-said (accepted-well-formed a) (accepted-scheme-said a) r f
+
+-- ---- the rows
+
+reads-more : {b : List ℕ} {from at next : ℕ} {rs : List Record} {r : Record} → Reads b from rs at
+    → readAt b at ≡ Found r next → Reads b from (rs ++ r ∷ []) next
+reads-more done e = more e done
+reads-more (more q w) e = more q (reads-more w e)
+
+length-all-more : (rs : List Record) (r : Record)
+    → length (bytesOfAll (rs ++ r ∷ [])) ≡ length (bytesOfAll rs) + length (bytesOf r)
+unfolding bytesOfAll
+length-all-more [] r = omega (arith, length-append (bytesOf r) [])
+length-all-more (q ∷ rs) r =
+    omega (
+      arith,
+      length-append (bytesOf q) (bytesOfAll (rs ++ r ∷ [])),
+      length-append (bytesOf q) (bytesOfAll rs),
+      length-all-more rs r,
+    )
+
+-- accepted records end behind their bytes
+accepted-length : {b : List ℕ} {rs : List Record} {s : Scheme} {rows : List ℕ} {at : ℕ} → Accepted b rs s rows at
+    → at ≡ length (bytesOfAll rs)
+unfolding bytesOfAll
+accepted-length none = refl
+accepted-length {b} (one {rs = rs} {at = at} {r = r} a e f) =
+    omega (
+      arith,
+      accepted-length a,
+      whole-readAt b at e .place,
+      kind-then-body .long r,
+      length-all-more rs r,
+    )
+
+module _ (r : Record) where
+  -- the position of a record behind others
+  behind : (at : ℕ) (q : Record) (rs : List Record)
+      → at + length (bytesOf q) + length (bytesOfAll rs) ≡ at + length (bytesOfAll (q ∷ rs))
+  unfolding bytesOfAll
+  behind at q rs = omega (arith, length-append (bytesOf q) (bytesOfAll rs))
+
+  rows-at-more : {at : ℕ} {rs : List Record} {rows : List ℕ} → kindOf r ≡ 4 → RowsAt at rs rows
+      → RowsAt at (rs ++ r ∷ []) (rows ++ (at + length (bytesOfAll rs)) ∷ [])
+  unfolding bytesOfAll
+  rows-at-more {at} e behindLast =
+      subst (λ (p : ℕ). RowsAt at (r ∷ []) (p ∷ [])) (sym (add-zero at)) (row e behindLast)
+  rows-at-more {at} e (row {r = q} {rs = rs} {rows = rows} y w) =
+      subst (λ (p : ℕ). RowsAt at (q ∷ rs ++ r ∷ []) (at ∷ rows ++ p ∷ [])) (behind at q rs)
+      (row y (rows-at-more e w))
+  rows-at-more {at} e (noRow {r = q} {rs = rs} {rows = rows} n w) =
+      subst (λ (p : ℕ). RowsAt at (q ∷ rs ++ r ∷ []) (rows ++ p ∷ [])) (behind at q rs) (noRow n (rows-at-more e w))
+
+  rows-at-same : {at : ℕ} {rs : List Record} {rows : List ℕ} → (kindOf r ≡ 4 → ⊥) → RowsAt at rs rows
+      → RowsAt at (rs ++ r ∷ []) rows
+  rows-at-same n behindLast = noRow n behindLast
+  rows-at-same n (row y w) = row y (rows-at-same n w)
+  rows-at-same n (noRow m w) = noRow m (rows-at-same n w)
+
+rowsOf-more : (b rows : List ℕ) (at k : ℕ) → rowsOf b (rows ++ at ∷ []) k ≡ rowsOf b rows k ++ rowOf k (readAt b at)
+unfolding rowsOf
+rowsOf-more b [] at k = append-nil (rowOf k (readAt b at))
+rowsOf-more b (p ∷ rows) at k =
+    ap (λ (l : List Tables.Row). rowOf k (readAt b p) ++ l) (rowsOf-more b rows at k)
+    ∙ sym (append-assoc (rowOf k (readAt b p)) (rowsOf b rows k) (rowOf k (readAt b at)))
+
+module _ {b : List ℕ} {rs : List Record} {rows : List ℕ} {at next : ℕ} (v : RowsSaid b rs rows at)
+    (here : at ≡ length (bytesOfAll rs)) where
+  -- a row of object k adds its cells to those of k, and nothing to those of another object
+  row-of-object : (object c0 c1 c2 c3 c4 c5 k : ℕ) → readAt b at ≡ Found (Row object c0 c1 c2 c3 c4 c5) next
+      → Gathered (SaysRow k) (rs ++ Row object c0 c1 c2 c3 c4 c5 ∷ []) (rowsOf b (rows ++ at ∷ []) k)
+  unfolding rowOf cellsOf
+  row-of-object object c0 c1 c2 c3 c4 c5 k e =
+      subst (Gathered (SaysRow k) (rs ++ r ∷ []))
+      (sym (rowsOf-more b rows at k ∙ ap (λ (x : _). rowsOf b rows k ++ rowOf k x) e))
+      (⊎-elim same other (eq-or-ne object k))
+    where
+      r : Record
+      r = Row object c0 c1 c2 c3 c4 c5
+
+      cells : Tables.Row
+      cells = c0 ∷ c1 ∷ c2 ∷ c3 ∷ c4 ∷ c5 ∷ []
+
+      by : Bool → List Tables.Row
+      by t = rowsOf b rows k ++ elim t [ true ↦ cells ∷ [] | false ↦ [] ]
+
+      same : object ≡ k → Gathered (SaysRow k) (rs ++ r ∷ []) (by (eqb object k))
+      same q =
+          subst (λ (t : Bool). Gathered (SaysRow k) (rs ++ r ∷ []) (by t)) (sym (eq-eqb object k q))
+          (gathered-more (SaysRow k) r cells (record {
+            c0 = c0;
+            c1 = c1;
+            c2 = c2;
+            c3 = c3;
+            c4 = c4;
+            c5 = c5;
+            isRow = ap (λ (x : ℕ). Row x c0 c1 c2 c3 c4 c5) q;
+            cells = refl;
+          }) (v .ofObject k))
+
+      other : (object ≡ k → ⊥) → Gathered (SaysRow k) (rs ++ r ∷ []) (by (eqb object k))
+      other d =
+          subst (λ (t : Bool). Gathered (SaysRow k) (rs ++ r ∷ []) (by t)) (sym (ne-eqb object k d))
+          (subst (Gathered (SaysRow k) (rs ++ r ∷ [])) (sym (append-nil (rowsOf b rows k)))
+          (gathered-same (SaysRow k) r (λ x w. let q = w .isRow in d (cc)) (v .ofObject k)))
+
+  row-said : (object c0 c1 c2 c3 c4 c5 : ℕ) → readAt b at ≡ Found (Row object c0 c1 c2 c3 c4 c5) next
+      → RowsSaid b (rs ++ Row object c0 c1 c2 c3 c4 c5 ∷ []) (rows ++ at ∷ []) next
+  unfolding kindOf
+  row-said object c0 c1 c2 c3 c4 c5 e = record {
+    read = reads-more (v .read) e;
+    positions =
+        subst (λ (p : ℕ). RowsAt 0 (rs ++ Row object c0 c1 c2 c3 c4 c5 ∷ []) (rows ++ p ∷ [])) (zero-add _ ∙ sym here)
+        (rows-at-more (Row object c0 c1 c2 c3 c4 c5) refl (v .positions));
+    ofObject = λ k. row-of-object object c0 c1 c2 c3 c4 c5 k e;
+  }
+
+  no-row-said : (r : Record) → (kindOf r ≡ 4 → ⊥) → readAt b at ≡ Found r next → RowsSaid b (rs ++ r ∷ []) rows next
+  no-row-said r n e = record {
+    read = reads-more (v .read) e;
+    positions = rows-at-same r n (v .positions);
+    ofObject = λ k. gathered-same (SaysRow k) r (no-row r n k) (v .ofObject k);
+  }
+
+  more-said : (r : Record) → readAt b at ≡ Found r next → RowsSaid b (rs ++ r ∷ []) (withRow rows r at) next
+  unfolding withRow isRow kindOf
+  more-said (Attribute id kind) e = no-row-said (Attribute id kind) (λ z. omega arith) e
+  more-said (Object number set) e = no-row-said (Object number set) (λ z. omega arith) e
+  more-said (Dependency left right) e = no-row-said (Dependency left right) (λ z. omega arith) e
+  more-said (Row object c0 c1 c2 c3 c4 c5) e = row-said object c0 c1 c2 c3 c4 c5 e
+  more-said (Declared set) e = no-row-said (Declared set) (λ z. omega arith) e
+  more-said (Removed set) e = no-row-said (Removed set) (λ z. omega arith) e
+  more-said (Item variable attribute) e = no-row-said (Item variable attribute) (λ z. omega arith) e
+  more-said (CompareTwo variable attribute operator variable2 attribute2) e =
+      no-row-said (CompareTwo variable attribute operator variable2 attribute2) (λ z. omega arith) e
+  more-said (CompareConstant variable attribute operator cell) e =
+      no-row-said (CompareConstant variable attribute operator cell) (λ z. omega arith) e
+  more-said End e = no-row-said End (λ z. omega arith) e
+
+pub accepted-rows-said : {b : List ℕ} {rs : List Record} {s : Scheme} {rows : List ℕ} {at : ℕ}
+    → Accepted b rs s rows at → RowsSaid b rs rows at
+unfolding rowsOf
+accepted-rows-said none = record { read = done; positions = behindLast; ofObject = λ k. ended }
+accepted-rows-said (one {r = r} a e f) = more-said (accepted-rows-said a) (accepted-length a) r e
+
+-- ---- the tables
+
+tableAt-map : (f : ℕ → Tables.Table) (l : List ℕ) {n : ℕ} → n < length l → Tables.tableAt (map f l) n ≡ f (getD l n 0)
+tableAt-map f [] h = absurd (not-suc-le-zero h)
+tableAt-map f (x ∷ l) {n = zero} h = refl
+tableAt-map f (x ∷ l) {n = suc n} h = tableAt-map f l (le-of-suc-le-suc h)
+
+-- the table at the rank of an object of M is its own
+pub table-said : {b : List ℕ} {rs : List Record} {at : ℕ} (o : Outcome) → RowsSaid b rs (o .rows) at
+    → (M : ℕ) {k : ℕ} → k < 32 → k ∈ M → TableSaid rs (o .scheme) k (Tables.tableAt (tablesOf b o M) (rank M k))
+unfolding tablesOf
+table-said {b} {rs} o v M {k} h i =
+    subst (TableSaid rs (o .scheme) k)
+    (sym (tableAt-map table (members 32 M) there ∙ ap table (getD-members 32 0 h i)))
+    (record { setIs = refl; rowsAre = v .ofObject k })
+  where
+    table : ℕ → Tables.Table
+    table j = record { set = getD (o .scheme .sets) j 0; rows = rowsOf b (o .rows) j }
+
+    there : rank M k < length (members 32 M)
+    there = subst (λ (n : ℕ). rank M k < n) (sym (length-members 32 M)) (rank-lt i h)
+
+-- ---- the row of a record in bytes
+
+module _ (b : List ℕ) (at : ℕ) {next k : ℕ} {r : Record} {cells : Tables.Row} (e : readAt b at ≡ Found r next)
+    (w : SaysRow k r cells) where
+  kind-four : kindOf r ≡ 4
+  unfolding kindOf
+  kind-four = ap kindOf (w .isRow)
+
+  pub row-whole : at + 26 ≤ length b
+  unfolding bodyLength bodyLengths
+  row-whole =
+      let v = whole-readAt b at e in
+      omega (arith, v .place, v .within, ap bodyLength kind-four)
+
+  -- a field of the body by its place behind the kind byte
+  cell-at : (j n : ℕ) → at + 1 + j ≡ n → field 4 (drop (at + 1) b) j ≡ field 4 b n
+  cell-at j n q = field-drop 4 b (at + 1) j ∙ ap (field 4 b) q
+
+  body-is : Row k (w .c0) (w .c1) (w .c2) (w .c3) (w .c4) (w .c5) ≡ recordOf 4 (drop (at + 1) b)
+  body-is = sym (w .isRow) ∙ whole-readAt b at e .body ∙ ap (λ (n : ℕ). recordOf n (drop (at + 1) b)) kind-four
+
+  pub row-in-bytes-is : BookRows.rowOf b at ≡ cells
+  unfolding recordOf bodies BookRows.rowOf
+  row-in-bytes-is =
+      let f0 = cell-at 1 (at + 2) (omega arith) in
+      let f1 = cell-at 5 (at + 6) (omega arith) in
+      let f2 = cell-at 9 (at + 10) (omega arith) in
+      let f3 = cell-at 13 (at + 14) (omega arith) in
+      let f4 = cell-at 17 (at + 18) (omega arith) in
+      let f5 = cell-at 21 (at + 22) (omega arith) in
+      let q = body-is in
+      let p = w .cells in
+      cc
+
+  pub row-in-tables : rowOf k (readAt b at) ≡ BookRows.rowOf b at ∷ []
+  unfolding rowOf cellsOf
+  row-in-tables =
+      ap (rowOf k) e ∙ ap (cellsOf k) (w .isRow)
+      ∙ ap (λ (t : Bool). elim t [ true ↦ said ∷ [] | false ↦ [] ]) (eq-eqb k k refl)
+      ∙ ap (λ (l : Tables.Row). l ∷ []) (sym (w .cells) ∙ sym row-in-bytes-is)
+    where
+      said : Tables.Row
+      said = w .c0 ∷ w .c1 ∷ w .c2 ∷ w .c3 ∷ w .c4 ∷ w .c5 ∷ []

@@ -1,0 +1,100 @@
+-- What the records of a book say, by their fields alone: those of the records of one kind, in their order, all of them and no
+-- other. That the scheme, the positions and the rows that reading gives are these is a theorem (`Statements`).
+-- In order: the fields of one kind in order, the fields of one kind by number, the scheme, the rows, a table.
+-- Assumes nothing.
+use mathlib.Core.Path.{_≡_}
+use mathlib.Core.Logic.{_↔_}
+use mathlib.Core.List.{List, [], _∷_, List·Memᴰ}
+use Prim.Native.Nat.{ℕ, _+_, _≤_}
+use lib.ListN.{length, getD}
+use Rattle.sets.specs.Sets.{_∈_, _∉_}
+use Rattle.records.specs.Records.{kindOf, bytesOf}
+use Rattle.records.specs.Reader.{Reads}
+use Rattle.records.specs.declared.Record.{Record}
+use Rattle.records.specs.declared.Record.the-variants.{Attribute, Object, Dependency, Row, Declared, Removed}
+use Rattle.relation.specs.Tables as Tables
+use Rattle.scheme.specs.declared.Scheme.{Scheme}
+use Rattle.scheme.specs.Dependencies as Dependencies
+use Rattle.scheme.specs.OfScheme.{dependenciesOf, declaredOf, removedOf}
+use Rattle.book.specs.TablesOf.{rowsOf}
+
+-- ---- the fields of one kind in order
+
+-- xs is what some of the records say, in their order: each record that says something gives one of xs, and each other none
+pub data Gathered {A : Type 0} (Says : Record → A → Type 0) : List Record → List A → Type 0 where
+  ended : Gathered Says [] []
+  taken : {r : Record} {rs : List Record} {x : A} {xs : List A} → Says r x → Gathered Says rs xs
+      → Gathered Says (r ∷ rs) (x ∷ xs)
+  passedOver : {r : Record} {rs : List Record} {xs : List A} → ((x : A) → Says r x → ⊥) → Gathered Says rs xs
+      → Gathered Says (r ∷ rs) xs
+
+-- "dependency: left determines right"
+abbrev pub SaysDependency : Record → Dependencies.Dependency → Type 0
+SaysDependency r d = r ≡ Dependency (d .left) (d .right)
+
+-- "declared maximal object"
+abbrev pub SaysDeclared : Record → ℕ → Type 0
+SaysDeclared r M = r ≡ Declared M
+
+-- "computed maximal object to be removed"
+abbrev pub SaysRemoved : Record → ℕ → Type 0
+SaysRemoved r M = r ≡ Removed M
+
+-- a row of object k: "object, six cells"
+pub record SaysRow (k : ℕ) (r : Record) (row : Tables.Row) : Type 0 where
+  pub c0 : ℕ
+  pub c1 : ℕ
+  pub c2 : ℕ
+  pub c3 : ℕ
+  pub c4 : ℕ
+  pub c5 : ℕ
+  pub isRow : r ≡ Row k c0 c1 c2 c3 c4 c5
+  pub cells : row ≡ c0 ∷ c1 ∷ c2 ∷ c3 ∷ c4 ∷ c5 ∷ []
+
+-- ---- the fields of one kind by number
+
+-- number i is declared, with the field v at its place, exactly if a record says so; the other places hold 0
+pub record ByNumber (says : ℕ → ℕ → Record) (rs : List Record) (numbers : ℕ) (fields : List ℕ) : Type 0 where
+  pub exactly : (i v : ℕ) → List·Memᴰ (says i v) rs ↔ ((i ∈ numbers) × (getD fields i 0 ≡ v))
+  pub nothingElse : (i : ℕ) → i ∉ numbers → getD fields i 0 ≡ 0
+
+-- ---- the scheme
+
+-- from place n on an array holds 0
+abbrev pub ZeroFrom : ℕ → List ℕ → Type 0
+ZeroFrom n l = (i : ℕ) → n ≤ i → getD l i 0 ≡ 0
+
+pub record SchemeSaid (rs : List Record) (s : Scheme) : Type 0 where
+  pub attributes : ByNumber Attribute rs (s .attributes) (s .kinds)
+  pub objects : ByNumber Object rs (s .objects) (s .sets)
+  pub dependencies : Gathered SaysDependency rs (dependenciesOf s)
+  pub declared : Gathered SaysDeclared rs (declaredOf s)
+  pub removed : Gathered SaysRemoved rs (removedOf s)
+  pub leftBehind : ZeroFrom (s .dependencies) (s .left)
+  pub rightBehind : ZeroFrom (s .dependencies) (s .right)
+  pub declaredBehind : ZeroFrom (s .declarations) (s .declared)
+  pub removedBehind : ZeroFrom (s .removals) (s .removed)
+
+-- ---- the rows
+
+-- where the records of kind 4 stand, if the first record stands at a position: each behind the bytes of those before it
+pub data RowsAt : ℕ → List Record → List ℕ → Type 0 where
+  behindLast : {at : ℕ} → RowsAt at [] []
+  row : {at : ℕ} {r : Record} {rs : List Record} {rows : List ℕ} → kindOf r ≡ 4
+      → RowsAt (at + length (bytesOf r)) rs rows → RowsAt at (r ∷ rs) (at ∷ rows)
+  noRow : {at : ℕ} {r : Record} {rs : List Record} {rows : List ℕ} → (kindOf r ≡ 4 → ⊥)
+      → RowsAt (at + length (bytesOf r)) rs rows → RowsAt at (r ∷ rs) rows
+
+-- the records stand in b from its start on, up to a position; the positions are those of their rows, and the rows of each
+-- object are the cells of its row records
+pub record RowsSaid (b : List ℕ) (rs : List Record) (rows : List ℕ) (at : ℕ) : Type 0 where
+  pub read : Reads b 0 rs at
+  pub positions : RowsAt 0 rs rows
+  pub ofObject : (k : ℕ) → Gathered (SaysRow k) rs (rowsOf b rows k)
+
+-- ---- a table
+
+-- the table of object k: its set, and the cells of its row records, in order, all of them and no other
+pub record TableSaid (rs : List Record) (s : Scheme) (k : ℕ) (T : Tables.Table) : Type 0 where
+  pub setIs : T .set ≡ getD (s .sets) k 0
+  pub rowsAre : Gathered (SaysRow k) rs (T .rows)
