@@ -16,19 +16,20 @@ use Rattle.records.specs.declared.Record.{Record}
 use Rattle.relation.proofs.Theorems.{demand3}
 use Rattle.scheme.specs.declared.Scheme.{Scheme}
 use Rattle.scheme.specs.Growing.{attributesOf}
-use Rattle.scheme.specs.OfScheme.{maximalOf, cyclicOf}
-use Rattle.scheme.proofs.Theorems.{cyclic-is-a-fault}
+use Rattle.scheme.specs.OfScheme.{dependenciesOf, declaredOf, removedOf, maximalOf, cyclicOf}
+use Rattle.scheme.proofs.Theorems.{object-joins-by-the-rule, grown-is-the-same-in-every-order, computed-is-the-list}
+use Rattle.scheme.proofs.Theorems.{maximal-objects-are-the-list, cyclic-is-a-fault}
 use Rattle.book.specs.Reading.{Outcome, read}
 use Rattle.book.specs.Accepting.{Accepted, none, AtLast, good}
 use Rattle.book.specs.Conditions.{First, conditions}
 use Rattle.book.specs.Statements.{FaultMeans, ReadExactly, StopsWith, NumberMeans, AcceptedSay, RowInBytes}
-use Rattle.book.specs.Statements.{SchemeWellFormed, TablesOfBook, MaximalObjectsOfBook}
+use Rattle.book.specs.Statements.{SchemeWellFormed, MaximalObjectsRead, TablesOfBook, MaximalObjectsOfBook}
 use Rattle.book.specs.TablesOf.{tablesOf}
 use Rattle.book.proofs.Conditions.{fault-first, first-fault}
 use Rattle.book.proofs.Outcomes.{read-over, read-stops, stops-read, number-at-most, number-over, number-not-one}
 use Rattle.book.proofs.Outcomes.{number-within, number-faulty, faulty-number, number-whole, whole-number}
 use Rattle.book.proofs.Outcomes.{good-last}
-use Rattle.book.proofs.WellFormed.{accepted-well-formed, family-of-attributes, maximal-some}
+use Rattle.book.proofs.WellFormed.{accepted-well-formed, family-of-attributes, scheme-bounded, maximal-some}
 use Rattle.book.proofs.TablesOf.{tables-family, tables-in-range}
 use Rattle.book.proofs.RecordsSay.{accepted-scheme-said, accepted-rows-said, table-said, row-whole}
 use Rattle.book.proofs.RecordsSay.{row-in-bytes-is, row-in-tables}
@@ -115,6 +116,17 @@ some-accepted b = ⊎-elim over within (lt-or-le 65536 (length b))
 
 pub scheme-well-formed : (b : List ℕ) → SchemeWellFormed b
 scheme-well-formed b = record { wellFormed = accepted-well-formed (some-accepted b .accepted) }
+
+pub maximal-objects-read : (b : List ℕ) → MaximalObjectsRead b
+maximal-objects-read b =
+    let s = read b .scheme in
+    let o = scheme-bounded (scheme-well-formed b .wellFormed) in
+    record {
+      joining = object-joins-by-the-rule (dependenciesOf s) (s .sets) (s .objects) o;
+      growing = grown-is-the-same-in-every-order (dependenciesOf s) (s .sets) (s .objects) o;
+      computed = computed-is-the-list (dependenciesOf s) (s .sets) (s .objects) o;
+      list = maximal-objects-are-the-list (dependenciesOf s) (s .sets) (s .objects) o (declaredOf s) (removedOf s);
+    }
 
 -- ---- the tables and maximal objects of a good book
 

@@ -6,7 +6,7 @@ use mathlib.Core.Path.{_≡_}
 use mathlib.Core.Bool.{true}
 use mathlib.Core.Logic.{_↔_}
 use mathlib.Core.List.{List, [], _∷_, List·Memᴰ}
-use Prim.Native.Nat.{ℕ, _+_, _≤_, _<_}
+use Prim.Native.Nat.{ℕ, _+_, _^_, _≤_, _<_}
 use lib.ListN.{length}
 use Rattle.sets.specs.Sets.{_∈_, _⊆_, rank}
 use Rattle.reduction.specs.Kept.{acyclic}
@@ -18,8 +18,8 @@ use Rattle.relation.specs.Tables.{Row, Table, tableAt, family}
 use Rattle.relation.specs.Demand3.{Demand3}
 use Rattle.scheme.specs.declared.Scheme.{Scheme}
 use Rattle.scheme.specs.Growing.{familyOf, attributesOf}
-use Rattle.scheme.specs.OfScheme.{maximalOf}
-use Rattle.scheme.specs.Statements.{SomeObjects}
+use Rattle.scheme.specs.OfScheme.{dependenciesOf, declaredOf, removedOf, maximalOf}
+use Rattle.scheme.specs.Statements.{JoinsByTheRule, GrownInEveryOrder, ComputedList, SomeObjects, MaximalObjectList}
 use Rattle.book.specs.Faults.{faultOf}
 use Rattle.book.specs.Declaring.{nothingDeclared}
 use Rattle.book.specs.Reading.{Outcome, read}
@@ -103,6 +103,17 @@ pub record RowInBytes (b : List ℕ) (at : ℕ) : Type 0 where
 
 pub record SchemeWellFormed (b : List ℕ) : Type 0 where
   pub wellFormed : WellFormed (read b .scheme)
+
+-- "Growing maximal objects", for the scheme of any book: an object joins by the rule, the computed sets are those that grow
+-- from its objects, and the maximal objects are those that are not removed and those declared
+pub record MaximalObjectsRead (b : List ℕ) : Type 0 where
+  pub joining : (H : ℕ) → H < 2 ^ 32 → (k : ℕ)
+      → JoinsByTheRule (dependenciesOf (read b .scheme)) (read b .scheme .sets) H k
+  pub growing : (start : ℕ) → start ∈ read b .scheme .objects
+      → GrownInEveryOrder (dependenciesOf (read b .scheme)) (read b .scheme .sets) (read b .scheme .objects) start
+  pub computed : ComputedList (dependenciesOf (read b .scheme)) (read b .scheme .sets) (read b .scheme .objects)
+  pub list : MaximalObjectList (dependenciesOf (read b .scheme)) (read b .scheme .sets) (read b .scheme .objects)
+      (declaredOf (read b .scheme)) (removedOf (read b .scheme))
 
 -- ---- the tables and maximal objects of a good book
 
