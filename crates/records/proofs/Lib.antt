@@ -2,3 +2,4 @@ pub mod Fields
 pub mod Records
 pub mod Reader
 pub mod Theorems
+pub mod Examples

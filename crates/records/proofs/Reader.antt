@@ -14,7 +14,7 @@ use native.Mathlib.Decide.{decLt}
 use borrow.Author.Tests.{leb-true, leb-false, le-leb, lt-leb, not-true, not-false}
 use lib.Dec.{leb}
 use lib.ListN.{length, getD, take, drop, length-append, length-drop, drop-of-length-le, take-append-drop}
-use lib.Seq.{drop-cons, drop-drop, drop-append-seam, drop-append-add, getD-drop, take-at}
+use lib.Seq.{drop-cons, drop-drop, drop-append-seam, drop-append-add, getD-drop}
 use Rattle.records.specs.Fields.{AreBytes}
 use Rattle.records.specs.Records.{isKind, bodyLength, kindOf, bytesOf, bytesOfAll, InWidth, AllInWidth}
 use Rattle.records.specs.Reader.{recordOf, readFront, readAt, NoKind, CutShort, Whole, Means}
@@ -160,17 +160,6 @@ stands-seam p bs q = record {
   within = simp length-append (omega arith);
   same = simp (append-assoc, drop-append-add, drop-append-seam);
 }
-
-pub stands-split : {s : List ℕ} {at : ℕ} {bs : List ℕ} {next : ℕ} → Stands s at bs next
-    → s ≡ take at s ++ bs ++ drop next s
-stands-split {s} {at} {bs} {next} h =
-    sym (take-append-drop at s)
-    ∙ ap (λ (l : List ℕ). take at s ++ l) (h .same)
-    ∙ sym (append-assoc (take at s) bs (drop next s))
-
-pub stands-take : {s : List ℕ} {at : ℕ} {bs : List ℕ} {next : ℕ} → Stands s at bs next
-    → take (next - at) (drop at s) ≡ bs
-stands-take {s} {at} {bs} {next} h = rw (h .same) (take-at bs (drop next s) (next - at) (omega (arith, h .place)))
 
 -- Two runs of bytes that stand one after the other stand as one, and back.
 pub stands-append : {s : List ℕ} {at : ℕ} {bs : List ℕ} {mid : ℕ} {cs : List ℕ} {next : ℕ}

@@ -3,12 +3,12 @@
 -- record at its place.
 -- Assumes nothing.
 use mathlib.Core.Path.{_≡_, refl, sym, ap, _∙_}
-use mathlib.Core.Bool.{Bool, true, false, and-eq-true-iff, false≢true}
+use mathlib.Core.Bool.{true, and-eq-true-iff, false≢true}
 use mathlib.Core.List.{List, _∷_, _++_}
 use Prim.Native.Nat.{ℕ, zero, suc, _+_, _≤_, _<_}
 use native.Mathlib.Nat.{add-zero}
 use native.Mathlib.Omega.{arith}
-use borrow.Author.Tests.{leb-true, le-leb}
+use borrow.Author.Tests.{leb-true}
 use lib.Dec.{leb}
 use lib.ListN.{length, take, drop, List·getD-eq-default}
 use lib.Seq.{take-add}
@@ -22,25 +22,11 @@ use Rattle.records.proofs.Fields.{value-bytes, bytes-field, field-drop,
 
 -- ---- kinds
 
-pub isKind-yes : (k : ℕ) → 1 ≤ k → k ≤ 10 → isKind k ≡ true
-unfolding isKind
-isKind-yes k low high = simp (le-leb 1 k low, le-leb k 10 high)
-
 pub isKind-range : (k : ℕ) → isKind k ≡ true → (1 ≤ k) × (k ≤ 10)
 unfolding isKind
 isKind-range k e =
     let both : (leb 1 k ≡ true) × (leb k 10 ≡ true) = and-eq-true-iff (leb 1 k) (leb k 10) .0 e in
     (leb-true 1 k (both .0), leb-true k 10 (both .1))
-
-pub isKind-no : (k : ℕ) → (1 ≤ k → k ≤ 10 → ⊥) → isKind k ≡ false
-isKind-no k h = go (isKind k) refl
-  where
-    go : (b : Bool) → isKind k ≡ b → isKind k ≡ false
-    go true e = absurd (h (isKind-range k e .0) (isKind-range k e .1))
-    go false e = e
-
-pub isKind-out : (k : ℕ) → isKind k ≡ false → 1 ≤ k → k ≤ 10 → ⊥
-isKind-out k e low high = false≢true (sym e ∙ isKind-yes k low high)
 
 -- What holds of each of the ten kinds holds of every kind.
 pub by-kind : (P : ℕ → Type 0) → P 1 → P 2 → P 3 → P 4 → P 5 → P 6 → P 7 → P 8 → P 9 → P 10

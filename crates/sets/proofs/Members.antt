@@ -4,11 +4,11 @@
 -- Assumes nothing.
 use mathlib.Core.Path.{_≡_, refl, sym, ap, ap₂, _∙_, subst}
 use mathlib.Core.Bool.{Bool, true, false}
-use mathlib.Core.Logic.{_⊎_, inl, inr, ⊎-elim}
-use mathlib.Core.List.{List, [], _∷_, _++_, List·Memᴰ, List·Memᴰ·head, List·Memᴰ·tail, List·Memᴰ·not-nil}
+use mathlib.Core.Logic.{⊎-elim}
+use mathlib.Core.List.{List, [], _∷_, _++_, List·Memᴰ, List·Memᴰ·head, List·Memᴰ·not-nil}
 use mathlib.Core.List.{List·Memᴰ·append-cases, List·Memᴰ·eq-of-singleton, Memᴰ·append-left, Memᴰ·append-right}
-use Prim.Native.Nat.{ℕ, zero, suc, _+_, _^_, _≤_, _<_}
-use native.Mathlib.Nat.{add-zero, not-suc-le-zero, le-of-suc-le-suc, eq-or-lt-of-le, lt-trans, le-refl, lt-of-not-le}
+use Prim.Native.Nat.{ℕ, zero, suc, _+_, _≤_, _<_}
+use native.Mathlib.Nat.{not-suc-le-zero, le-of-suc-le-suc, eq-or-lt-of-le, lt-trans, le-refl, lt-of-not-le}
 use native.Mathlib.Omega.{arith}
 use lib.ListN.{length, getD, length-append, List·getD-append}
 use lib.Seq.{getD-at}
@@ -77,7 +77,8 @@ record MemberAt (w s i x : ℕ) : Type 0 where
 member-at : (w s d i : ℕ) → i < length (members w s) → MemberAt w s i (getD (members w s) i d)
 unfolding members
 member-at zero s d i h = absurd (not-suc-le-zero h)
-member-at (suc w) s d i h = ⊎-elim (λ l. earlier l (member-at w s d i l)) (λ l. last (has s w) refl l h) (lt-or-le i (length l₀))
+member-at (suc w) s d i h =
+    ⊎-elim (λ l. earlier l (member-at w s d i l)) (λ l. last (has s w) refl l h) (lt-or-le i (length l₀))
   where
     l₀ : List ℕ
     l₀ = members w s
@@ -127,7 +128,8 @@ has-remove-other {j} {k} s n =
     out : j ∉ s → j ∉ remove s k
     out o = not-in (λ i. in-out (∖-left s (single k) i) o)
 
-pub members-first : {s k : ℕ} (w : ℕ) → k < w → k ∈ s → ((j : ℕ) → j < k → j ∉ s) → members w s ≡ k ∷ members w (remove s k)
+pub members-first : {s k : ℕ} (w : ℕ) → k < w → k ∈ s → ((j : ℕ) → j < k → j ∉ s)
+    → members w s ≡ k ∷ members w (remove s k)
 unfolding members
 members-first zero h i n = absurd (not-suc-le-zero h)
 members-first {s} {k} (suc w) h i n =

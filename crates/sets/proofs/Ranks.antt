@@ -1,10 +1,11 @@
 -- The rank of a member, the count of members and the lowest member, for every width together.
 -- In order: rank by one step, its order, the count as the library's count of ones, the lowest member.
 -- Assumes nothing.
-use mathlib.Core.Path.{_≡_, refl, sym, ap, ap₂, _∙_, subst}
-use mathlib.Core.Logic.{_⊎_, inl, inr, ⊎-elim}
+use mathlib.Core.Path.{_≡_, refl, sym, ap, ap₂, _∙_}
+use mathlib.Core.Logic.{⊎-elim}
 use Prim.Native.Nat.{ℕ, zero, suc, _+_, _-_, _/_, _%_, _^_, _≤_, _<_}
-use native.Mathlib.Nat.{mod-one, mod-lt, mod-eq-of-lt, add-comm, le-refl, le-of-suc-le-suc, not-suc-le-zero, zero-lt-suc}
+use native.Mathlib.Nat.{mod-one, mod-lt, mod-eq-of-lt, add-comm, le-refl, le-of-suc-le-suc, not-suc-le-zero}
+use native.Mathlib.Nat.{zero-lt-suc}
 use native.Mathlib.Decide.{le-ind}
 use native.Mathlib.Numerals.{one-add}
 use native.Mathlib.Omega.{arith}
@@ -12,7 +13,7 @@ use lib.Bits.{and-mask}
 use lib.Count.{ones, onesIn, ones-cat, trailingZeros, trailing-le, under}
 use lib.Pow.{mod-pow-add, pow-pos}
 use Rattle.sets.specs.Sets.{bit, _∈_, _∉_, _∩_, single, rank, count, lowest}
-use Rattle.sets.proofs.Bits.{bit-lt-two, bit-zero, bit-suc, in-out, not-in, member-lt}
+use Rattle.sets.proofs.Bits.{bit-lt-two, bit-zero, bit-suc, in-out, member-lt}
 use Rattle.sets.proofs.Numbers.{lt-or-le}
 
 -- ---- rank by one step

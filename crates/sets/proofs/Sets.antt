@@ -1,15 +1,16 @@
--- The laws of sets, for every width together. A test has a yes and a no lemma each way; a fact on members is a fact on
--- bits, so what is left is linear arithmetic.
--- In order: the test of membership, intersection, union, difference, single sets, extensionality, containment,
--- emptiness, bounds.
+-- The laws of sets, for every width together. A test has lemmas from the fact to its answer and back; a fact on members
+-- is a fact on bits, so what is left is linear arithmetic.
+-- In order: the test of membership, intersection, union, difference, single sets, one member more and one less,
+-- extensionality, containment, emptiness, bounds.
 -- Assumes nothing.
 use mathlib.Core.Path.{_≡_, refl, sym, ap, _∙_, subst}
 use mathlib.Core.Bool.{Bool, true, false, true≢false}
 use mathlib.Core.Logic.{_⊎_, inl, inr, ⊎-elim}
 use Prim.Native.Nat.{ℕ, zero, suc, _+_, _-_, _*_, _/_, _%_, _^_, _≤_, _<_, min, max}
-use native.Mathlib.Nat.{div-self, mul-div-cancel, mul-mod-left, zero-div, pow-suc, one-mul, mod-eq-of-lt, le-refl, lt-of-le-of-lt}
+use native.Mathlib.Nat.{div-self, mul-div-cancel, mul-mod-left, zero-div, pow-suc, one-mul, mod-eq-of-lt, le-refl}
+use native.Mathlib.Nat.{lt-of-le-of-lt}
 use native.Mathlib.Omega.{arith}
-use lib.Bits.{bitAnd, bitOr, bitXor, differ, and-le-r, or-lt, or-zero-l, or-zero-r}
+use lib.Bits.{bitAnd, differ, and-le-r, or-lt, or-zero-l, or-zero-r}
 use lib.Arith.{lt-of-le-ne, bin-ind}
 use lib.Pow.{pow-pos, pow-add, pow-lt}
 use borrow.Author.Tests.{eq-eqb, ne-eqb, eqb-true, eqb-false}
@@ -166,7 +167,8 @@ pub ext : {s t : ℕ} → s ⊆ t → t ⊆ s → s ≡ t
 ext {s} {t} h k = ext-bits s t same
   where
     same : (j : ℕ) → bit s j ≡ bit t j
-    same j = ⊎-elim (λ i. i .isOne ∙ sym (h .each i .isOne)) (λ o. o .isZero ∙ sym (outside o .isZero)) (member-or-not j s)
+    same j =
+        ⊎-elim (λ i. i .isOne ∙ sym (h .each i .isOne)) (λ o. o .isZero ∙ sym (outside o .isZero)) (member-or-not j s)
       where
         outside : j ∉ s → j ∉ t
         outside o = not-in (λ i. in-out (k .each i) o)
@@ -215,13 +217,6 @@ within-yes {s} {t} h = eq-eqb (bitAnd s t) s (∩-of-⊆ h)
 pub yes-within : (s t : ℕ) → within s t ≡ true → s ⊆ t
 unfolding within _∩_
 yes-within s t e = subst (λ (x : ℕ). x ⊆ t) (eqb-true (bitAnd s t) s e) (∩-⊆-right s t)
-
-pub within-no : {s t : ℕ} → (s ⊆ t → ⊥) → within s t ≡ false
-within-no {s} {t} n = no-test (within s t) refl
-  where
-    no-test : (b : Bool) → within s t ≡ b → within s t ≡ false
-    no-test true e = absurd (n (yes-within s t e))
-    no-test false e = e
 
 pub no-within : {s t : ℕ} → within s t ≡ false → s ⊆ t → ⊥
 no-within e h = true≢false (sym (within-yes h) ∙ e)
@@ -291,9 +286,6 @@ pub ∩-lt : {s : ℕ} (t w : ℕ) → s < 2 ^ w → s ∩ t < 2 ^ w
 pub ∪-lt : {s t : ℕ} (w : ℕ) → s < 2 ^ w → t < 2 ^ w → s ∪ t < 2 ^ w
 unfolding _∪_
 ∪-lt {s} {t} w h k = or-lt w s t h k
-
-pub ∖-lt : {s : ℕ} (t w : ℕ) → s < 2 ^ w → s ∖ t < 2 ^ w
-∖-lt {s} t w h = lt-of-le-of-lt (⊆-le (∖-⊆ s t)) h
 
 pub single-lt : {k : ℕ} (w : ℕ) → k < w → single k < 2 ^ w
 unfolding single

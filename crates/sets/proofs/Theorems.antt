@@ -4,11 +4,13 @@ use mathlib.Core.Path.{sym, subst}
 use mathlib.Core.Logic.{⊎-elim}
 use Prim.Native.Nat.{ℕ}
 use Rattle.sets.specs.Sets.{_∈_, single}
-use Rattle.sets.specs.Statements.{MembersOfSets, EqualSets, Containment, RankAndCount, LowestMember, MembersListed}
+use Rattle.sets.specs.Statements.{MembersOfSets, EqualSets, Containment, RankAndCount, LowestMember}
+use Rattle.sets.specs.Statements.{MembersListed}
 use Rattle.sets.proofs.Bits.{member-or-not}
-use Rattle.sets.proofs.Sets.{has-yes, yes-has, ∩-in, ∩-left, ∩-right, ∪-left, ∪-right, ∪-cases, ∖-in, ∖-left, ∖-out}
-use Rattle.sets.proofs.Sets.{in-single, single-in, ext, no-members, isEmpty-yes, yes-isEmpty, within-yes, yes-within}
-use Rattle.sets.proofs.Sets.{⊆-le}
+use Rattle.sets.proofs.Sets.{has-yes, yes-has, ∩-in, ∩-left, ∩-right, ∪-left, ∪-right, ∪-cases}
+use Rattle.sets.proofs.Sets.{∖-in, ∖-left, ∖-out}
+use Rattle.sets.proofs.Sets.{in-single, single-in, ext, no-members, isEmpty-yes, yes-isEmpty, within-yes}
+use Rattle.sets.proofs.Sets.{yes-within, ⊆-le}
 use Rattle.sets.proofs.Ranks.{rank-lt-count, rank-lt, ones-count, lowest-in, below-lowest, lowest-le}
 use Rattle.sets.proofs.Members.{members-has, members-only, members-ascending, length-members, getD-members}
 

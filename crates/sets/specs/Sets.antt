@@ -20,8 +20,8 @@ infix 50 _∈_ _∉_ _⊆_
 unfoldable pub bit : ℕ → ℕ → ℕ
 bit s k = s / 2 ^ k % 2
 
--- "bit k stands for attribute or object k": k is a member of s, or it is none. These are records, so that k and s can be
--- inferred from a hypothesis
+-- "bit k stands for attribute or object k": k is a member of s, or it is none. These are records, so that k and s can
+-- be inferred from a hypothesis
 pub record _∈_ (k s : ℕ) : Type 0 where
   pub isOne : bit s k ≡ 1
 

@@ -1,6 +1,7 @@
--- What is proved of sets, for every number and so for every width together. The proofs are in `proofs/Theorems.antt`, in
--- this order.
--- In order: members of sets made of sets, equal sets, containment, rank and count, the lowest member, the list of members.
+-- What is proved of sets, for every number and so for every width together. The proofs are in `proofs/Theorems.antt`,
+-- in this order.
+-- In order: members of sets made of sets, equal sets, containment, rank and count, the lowest member, the list of
+-- members.
 -- Assumes nothing.
 use mathlib.Core.Path.{_≡_}
 use mathlib.Core.Bool.{true}
@@ -9,7 +10,8 @@ use mathlib.Core.List.{List·Memᴰ}
 use Prim.Native.Nat.{ℕ, _^_, _≤_, _<_}
 use lib.Count.{ones}
 use lib.ListN.{length, getD}
-use Rattle.sets.specs.Sets.{_∈_, _∉_, has, _⊆_, within, _∩_, _∪_, _∖_, single, isEmpty, rank, count, lowest, members}
+use Rattle.sets.specs.Sets.{_∈_, _∉_, has, _⊆_, within, _∩_, _∪_, _∖_, single, isEmpty, rank, count, lowest}
+use Rattle.sets.specs.Sets.{members}
 
 -- who is a member of the sets that are made of s and t
 pub record MembersOfSets (s t k : ℕ) : Type 0 where
@@ -26,7 +28,8 @@ pub record EqualSets (s t : ℕ) : Type 0 where
   pub empty : ((k : ℕ) → k ∉ s) → s ≡ 0
   pub emptyTest : (isEmpty s ≡ true) ↔ (s ≡ 0)
 
--- "every member of the one is a member of the other" is the arithmetic test; a set that is contained is a number not larger
+-- that every member of the one is a member of the other is the arithmetic test; a set that is contained is a number not
+-- larger
 pub record Containment (s t : ℕ) : Type 0 where
   pub test : (within s t ≡ true) ↔ (s ⊆ t)
   pub notLarger : s ⊆ t → s ≤ t
@@ -43,7 +46,8 @@ pub record LowestMember (w s : ℕ) : Type 0 where
   pub noneBelow : {k : ℕ} → k < lowest w s → k ∉ s
   pub atMost : lowest w s ≤ w
 
--- the list has the members below w, ascending and so each once, its length is the count, and a member stands at its rank
+-- the list has the members below w, ascending and so each once, its length is the count, and a member stands at its
+-- rank
 pub record MembersListed (w s : ℕ) : Type 0 where
   pub listed : {k : ℕ} → List·Memᴰ k (members w s) ↔ ((k < w) × (k ∈ s))
   pub ascending : {i j : ℕ} → i < j → j < length (members w s) → getD (members w s) i 0 < getD (members w s) j 0

@@ -1,12 +1,12 @@
-// Attribute and object sets as masks: bit k stands for attribute or object k. Each function is one operation on the whole
-// set; its contract is an equation with a definition of specs/Sets.antt, which holds for every width.
+// Attribute and object sets as masks: bit k stands for attribute or object k. Each function is one operation on the
+// whole set; its contract is an equation with a definition of specs/Sets.antt, which holds for every width.
 ghost use mathlib.Core.Path.{_≡_};
 ghost use Prim.Native.Nat.{_<_};
 ghost use Rattle.sets.specs.Sets.{has, within, _∩_, _∪_, _∖_, single, insert, remove, isEmpty};
 ghost use Rattle.sets.specs.Sets.{rank, count, lowest};
 
-// Attributes are numbered from 0 on, and so are objects: how many of each there may be, and the sets of them. The functions
-// serve both, which are of one width.
+// Attributes are numbered from 0 on, and so are objects: how many of each there may be, and the sets of them. The
+// functions serve both, which are of one width.
 pub const ATTRIBUTES: u32 = 32;
 
 pub const OBJECTS: u32 = 32;

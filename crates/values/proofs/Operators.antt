@@ -4,11 +4,11 @@
 use mathlib.Core.Path.{_≡_, refl, sym, ap, _∙_}
 use mathlib.Core.Bool.{Bool, true, false, not, true≢false, Bool·not-not, and-comm, and-false, and-eq-true-iff}
 use mathlib.Core.List.{[], _∷_}
-use mathlib.Core.Logic.{_↔_, Iff·trans, Iff·not}
+use mathlib.Core.Logic.{_⊎_, inl, inr, _↔_, Iff·trans, Iff·not}
 use Prim.Native.Nat.{ℕ, zero, suc, _^_, _<_}
 use native.Mathlib.Decide.{ℕ-discrete, decLt}
 use native.Mathlib.Omega.{arith}
-use lib.Dec.{eqb, ltb, leb}
+use lib.Dec.{eqb, ltb, leb, lit<}
 use lib.IntN.{ℤ}
 use lib.ListN.{getD, List·getD-eq-default}
 use lib.Signed.{ltZ, leZ}
@@ -16,9 +16,9 @@ use borrow.Author.Tests as Tests
 use Rattle.values.specs.Values.{name, length, angle, date, valueOf, key}
 use Rattle.values.specs.Operators.{Operator, equal, unequal, less, atMost, greater, atLeast, operatorNumber}
 use Rattle.values.specs.Operators.{Means, eqZ, compares, holds, allows, mirror, opposite}
-use Rattle.values.proofs.Tests.{same-truth, not-true, leZ-not-ltZ, ltZ-not-leZ, eqZ-not-ltZ}
+use Rattle.values.proofs.Tests.{not-true, leZ-not-ltZ, ltZ-not-leZ, eqZ-not-ltZ}
 use Rattle.values.proofs.Tests.{ltZ-true, leZ-true, eqZ-true}
-use Rattle.values.proofs.Values.{key-lt, key-le, key-eq, value-injective}
+use Rattle.values.proofs.Values.{key-lt, key-le, key-eq}
 
 -- ---- numbers of operators
 
@@ -41,6 +41,15 @@ numbered operator =
     (λ h. (equal, refl)) (λ h. (unequal, refl)) (λ h. (less, refl))
     (λ h. (atMost, refl)) (λ h. (greater, refl)) (λ h. (atLeast, refl))
     (λ n h. absurd (omega arith)) operator
+
+number-below : (o : Operator) → operatorNumber o < 6
+unfolding operatorNumber
+number-below equal = lit< tt
+number-below unequal = lit< tt
+number-below less = lit< tt
+number-below atMost = lit< tt
+number-below greater = lit< tt
+number-below atLeast = lit< tt
 
 -- ---- what an operator means
 
@@ -89,14 +98,6 @@ pub holds-at : (n operator kind left right : ℕ) {a b : ℕ} → operator ≡ n
     → left < 2 ^ 32 → right < 2 ^ 32 → comparesKeys n a b ≡ holds operator kind left right
 holds-at n operator kind left right e d f p q = rw (d, f, ← e) (holds-keys operator kind p q)
 
--- two cells of one kind are equal in value exactly if they are the same cell
-pub holds-equal : (kind : ℕ) {a b : ℕ} → a < 2 ^ 32 → b < 2 ^ 32 → holds 0 kind a b ≡ eqb a b
-unfolding Means operatorNumber
-holds-equal kind {a} {b} p q =
-    same-truth
-    (λ e. Tests.eq-eqb a b (value-injective kind p q (holds-means equal kind a b .0 e)))
-    (λ e. holds-means equal kind a b .1 (ap (valueOf kind) (Tests.eqb-true a b e)))
-
 -- ---- the table
 
 pub allows-same : (operator left right : ℕ) → allows operator left right ≡ true → left ≡ right
@@ -130,16 +131,35 @@ allows-no-right operator left right h = by (allows operator left right) refl
     by false e = refl
     by true e = sym e ∙ allows-no-left operator left right (omega (arith, allows-same operator left right e))
 
-pub allows-known : (operator left right : ℕ) → allows operator left right ≡ true → (operator < 6) × (left < 4)
-allows-known operator left right e = (by (decLt operator 6), by-kind (decLt left 4))
+pub allows-known : (operator left right : ℕ) → allows operator left right ≡ true → operator < 6
+allows-known operator left right e = by (decLt operator 6)
   where
     by : Dec (operator < 6) → operator < 6
     by (yes h) = h
     by (no f) = absurd (true≢false (sym e ∙ allows-over operator left right (omega arith)))
 
-    by-kind : Dec (left < 4) → left < 4
-    by-kind (yes h) = h
-    by-kind (no f) = absurd (true≢false (sym e ∙ allows-no-left operator left right (omega arith)))
+-- a test that passes for numbers below 2 passes for equal and unequal, and for no other
+pub below-two : {t : Bool} (operator : ℕ) → t ≡ ltb operator 2 → (t ≡ true) ↔ ((operator ≡ 0) ⊎ (operator ≡ 1))
+below-two operator e =
+    (λ p. by operator (Tests.ltb-true operator 2 (sym e ∙ p)), λ s. e ∙ Tests.lt-ltb operator 2 (back s))
+  where
+    by : (n : ℕ) → n < 2 → (n ≡ 0) ⊎ (n ≡ 1)
+    by zero h = inl refl
+    by (suc zero) h = inr refl
+    by (suc (suc n)) h = absurd (omega arith)
+
+    back : (operator ≡ 0) ⊎ (operator ≡ 1) → operator < 2
+    back (inl h) = omega arith
+    back (inr h) = omega arith
+
+-- a test that passes for numbers below 6 passes for all six operators, and for no other number
+pub below-six : {t : Bool} (operator : ℕ) → t ≡ ltb operator 6
+    → (t ≡ true) ↔ ((o : Operator) × (operatorNumber o ≡ operator))
+below-six operator e =
+    (λ p. numbered operator (Tests.ltb-true operator 6 (sym e ∙ p)), λ s. e ∙ Tests.lt-ltb operator 6 (back s))
+  where
+    back : (o : Operator) × (operatorNumber o ≡ operator) → operator < 6
+    back (o, h) = omega (arith, number-below o)
 
 -- ---- sides turned
 

@@ -26,7 +26,7 @@ not-true {t = true} = (λ e. absurd (false≢true e), λ f. absurd (f refl))
 not-true {t = false} = (λ e f. false≢true f, λ f. refl)
 
 -- two tests that pass at the same time
-pub same-truth : {s t : Bool} → (s ≡ true → t ≡ true) → (t ≡ true → s ≡ true) → s ≡ t
+same-truth : {s t : Bool} → (s ≡ true → t ≡ true) → (t ≡ true → s ≡ true) → s ≡ t
 same-truth {s = true} {t = true} there back = refl
 same-truth {s = true} {t = false} there back = sym (there refl)
 same-truth {s = false} {t = true} there back = back refl

@@ -2,7 +2,7 @@
 -- In order: the range, lengths, keys and values, the order by value, match.
 -- Assumes nothing.
 use mathlib.Core.Path.{_≡_, refl, sym, ap, ap₂, _∙_}
-use mathlib.Core.Bool.{Bool, true, false, not, cond, _&&_, and-true, and-eq-true-iff}
+use mathlib.Core.Bool.{Bool, true, false, not, cond, _&&_, and-true}
 use mathlib.Core.Logic.{_⊎_, inl, inr, _↔_}
 use Prim.Native.Nat.{ℕ, suc, _+_, _-_, _%_, _^_, _<_, _≤_}
 use native.Mathlib.Omega.{arith}
@@ -13,7 +13,7 @@ use borrow.Author.Tests as Tests
 use Rattle.values.specs.Values.{length, angle, inRange, signed, valueOf, lessCell, key, matches}
 use Rattle.values.specs.Operators.{eqZ}
 use Rattle.values.proofs.Tests.{not-true, ltb-same, leb-not-ltb, eqb-not-ltb}
-use Rattle.values.proofs.Tests.{leZ-not-ltZ, eqZ-not-ltZ, ltZ-true, eqZ-true, <ℤ-≤ℤ}
+use Rattle.values.proofs.Tests.{leZ-not-ltZ, eqZ-not-ltZ, ltZ-true, <ℤ-≤ℤ}
 
 -- ---- the range
 
@@ -24,17 +24,6 @@ inRange-angle kind cell e = rw (Tests.eq-eqb kind angle e)
 pub inRange-other : (kind cell : ℕ) → ¬ (kind ≡ angle) → cell < 2 ^ 32 → inRange kind cell ≡ ltb kind 4
 unfolding inRange
 inRange-other kind cell f p = rw (Tests.ne-eqb kind angle f, Tests.lt-ltb cell (2 ^ 32) p) (and-true (ltb kind 4))
-
-pub inRange-known : (kind cell : ℕ) → inRange kind cell ≡ true → (kind < 4) × (cell < 2 ^ 32)
-unfolding inRange
-inRange-known kind cell e = by (eqb kind angle) refl e
-  where
-    by : (t : Bool) → eqb kind angle ≡ t → cond t (ltb cell 36000) (ltb kind 4 && ltb cell (2 ^ 32)) ≡ true
-        → (kind < 4) × (cell < 2 ^ 32)
-    by true h e′ = (omega (arith, Tests.eqb-true kind angle h), omega (arith, Tests.ltb-true cell 36000 e′))
-    by false h e′ =
-        let both = and-eq-true-iff (ltb kind 4) (ltb cell (2 ^ 32)) .0 e′ in
-        (Tests.ltb-true kind 4 (both .0), Tests.ltb-true cell (2 ^ 32) (both .1))
 
 -- ---- lengths
 
@@ -105,14 +94,6 @@ key-eq kind {a} {b} p q =
     ∙ ap₂ (λ s t. not s && not t) (key-lt kind p q) (key-lt kind q p)
     ∙ sym (eqZ-not-ltZ (valueOf kind a) (valueOf kind b))
 
-pub key-below : (kind : ℕ) {a : ℕ} → a < 2 ^ 32 → key kind a < 2 ^ 32
-unfolding key
-key-below kind {a} p = by (eqb kind length)
-  where
-    by : (t : Bool) → cond t (lengthKey a) a < 2 ^ 32
-    by true = omega arith
-    by false = p
-
 pub key-injective : (kind : ℕ) {a b : ℕ} → a < 2 ^ 32 → b < 2 ^ 32 → key kind a ≡ key kind b → a ≡ b
 unfolding key
 key-injective kind {a} {b} p q e = by (eqb kind length) e
@@ -120,11 +101,6 @@ key-injective kind {a} {b} p q e = by (eqb kind length) e
     by : (t : Bool) → cond t (lengthKey a) a ≡ cond t (lengthKey b) b → a ≡ b
     by true e′ = omega arith
     by false e′ = e′
-
-pub value-injective : (kind : ℕ) {a b : ℕ} → a < 2 ^ 32 → b < 2 ^ 32 → valueOf kind a ≡ valueOf kind b → a ≡ b
-value-injective kind {a} {b} p q e =
-    key-injective kind p q
-    (Tests.eqb-true (key kind a) (key kind b) (key-eq kind p q ∙ eqZ-true (valueOf kind a) (valueOf kind b) .1 e))
 
 -- ---- the order by value
 
@@ -167,10 +143,6 @@ less-total kind {a} {b} p q = by (ltb (key kind a) (key kind b)) (ltb (key kind 
 pub matches-yes : (kind : ℕ) {a b : ℕ} → a ≡ b → matches kind a b ≡ true
 unfolding matches
 matches-yes kind {a} {b} e = Tests.eq-eqb a b e
-
-pub matches-no : (kind : ℕ) {a b : ℕ} → ¬ (a ≡ b) → matches kind a b ≡ false
-unfolding matches
-matches-no kind {a} {b} f = Tests.ne-eqb a b f
 
 pub matches-equal : (kind a b : ℕ) → matches kind a b ≡ true → a ≡ b
 unfolding matches

@@ -26,6 +26,17 @@ OperatorsMean =
     (o : Operator) (kind a b : ℕ)
     → (holds (operatorNumber o) kind a b ≡ true) ↔ Means o (valueOf kind a) (valueOf kind b)
 
+-- The comparison table "allows 0 and 1 within names and within angles, all six within lengths and within dates, and
+-- none between different kinds", and nothing else, whatever number stands in an operator's place. The kinds stand here
+-- by their numbers, "0 name", "1 length", "2 angle", "3 date"; a number over 3 is no kind.
+pub record TableAllows : Type 0 where
+  pub names : (operator : ℕ) → (allows operator 0 0 ≡ true) ↔ ((operator ≡ 0) ⊎ (operator ≡ 1))
+  pub angles : (operator : ℕ) → (allows operator 2 2 ≡ true) ↔ ((operator ≡ 0) ⊎ (operator ≡ 1))
+  pub lengths : (operator : ℕ) → (allows operator 1 1 ≡ true) ↔ ((o : Operator) × (operatorNumber o ≡ operator))
+  pub dates : (operator : ℕ) → (allows operator 3 3 ≡ true) ↔ ((o : Operator) × (operatorNumber o ≡ operator))
+  pub between : (operator left right : ℕ) → ¬ (left ≡ right) → allows operator left right ≡ false
+  pub noKind : (operator kind : ℕ) → 3 < kind → allows operator kind kind ≡ false
+
 -- A comparison that the table allows is one of the six operators and means what that operator says of the two values,
 -- each taken by its own kind.
 unfoldable pub AllowedMeans : Type 0
