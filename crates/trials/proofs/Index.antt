@@ -1,6 +1,6 @@
--- The names that docs/STATEMENTS.md gives, cited: the proved contract of each public function, each theorem, and the demands
--- as typed lines. A name that is gone or says something else is refused here.
--- In order: contracts, theorems, demand 3, demand 2 for books.
+-- The names that docs/STATEMENTS.md gives. A name that is only imported is refused here once it is gone; a theorem that stands
+-- below as a typed line is refused as soon as it says something else, too.
+-- In order: contracts and theorems, imported; then as typed lines demand 2 for books, demand 3, the comparison table.
 -- Assumes nothing.
 use mathlib.Core.Path.{_≡_}
 use mathlib.Core.List.{List}
@@ -11,7 +11,13 @@ use Rattle.reduction.specs.Kept.{union}
 use Rattle.reduction.specs.Statements.{OfAttributes, KeptByEveryList}
 use Rattle.relation.specs.Tables.{Table, family}
 use Rattle.relation.specs.Demand3.{Demand3}
-use Rattle.book.specs.Statements.{NumberMeans, MaximalObjectsOfBook}
+use Rattle.records.specs.declared.Record.{Record}
+use Rattle.scheme.specs.declared.Scheme.{Scheme}
+use Rattle.values.specs.Statements.{TableAllows}
+use Rattle.book.specs.Reading.{Outcome}
+use Rattle.book.specs.Accepting.{Accepted}
+use Rattle.book.specs.Statements.{FaultMeans, ReadExactly, NumberMeans, AcceptedSay, RowInBytes, MaximalObjectsRead}
+use Rattle.book.specs.Statements.{TablesOfBook, MaximalObjectsOfBook}
 -- ---- contracts: each is that the function meets its `ensures` for all inputs
 use Rattle.sets.proofs.has.Met.{met as sets-has}
 use Rattle.sets.proofs.within.Met.{met as sets-within}
@@ -31,6 +37,7 @@ use Rattle.values.proofs.less.Met.{met as values-less}
 use Rattle.values.proofs.allowed.Met.{met as values-allowed}
 use Rattle.values.proofs.holds.Met.{met as values-holds}
 use Rattle.values.proofs.matching.Met.{met as values-matching}
+use Rattle.records.proofs.wide.Met.{met as records-wide}
 use Rattle.records.proofs.byte_at.Met.{met as records-byte-at}
 use Rattle.records.proofs.word_at.Met.{met as records-word-at}
 use Rattle.records.proofs.is_kind.Met.{met as records-is-kind}
@@ -55,35 +62,66 @@ use Rattle.scheme.proofs.maximal_objects.Met.{met as scheme-maximal-objects}
 use Rattle.book.proofs.read.Met.{met as book-read}
 -- ---- theorems
 use Rattle.sets.proofs.Theorems.{members-of-sets, equal-sets, containment, rank-and-count, lowest-member, members-listed}
-use Rattle.values.proofs.Theorems.{ordered-by-value, operators-mean, allowed-means, turned}
+use Rattle.values.proofs.Theorems.{ordered-by-value, operators-mean, table-allows, allowed-means, turned}
 use Rattle.records.proofs.Theorems.{fields-inverse, kind-then-body, reads-back, was-written, answers-mean}
+use Rattle.records.proofs.Examples.{examples-written, examples-read}
 use Rattle.reduction.proofs.Theorems.{kept-by-every-list, cover-order, reduces-to-nothing, kept-set-laws}
 use Rattle.reduction.proofs.Examples.{examples-hold, triangle-is-cyclic, filled-triangle-is-acyclic}
 use Rattle.relation.proofs.Theorems.{nothing-shared, every-row, no-other-row, lowest-stands, join-computed, part-computed, demand3}
-use Rattle.scheme.proofs.Theorems.{closure-is-least, closure-is-monotone, grown-is-least, grown-is-the-same-in-every-order}
+use Rattle.scheme.proofs.Theorems.{closure-is-least, closure-is-monotone, object-joins-by-the-rule, grown-is-least}
+use Rattle.scheme.proofs.Theorems.{grown-is-the-same-in-every-order}
 use Rattle.scheme.proofs.Theorems.{computed-is-the-list, removing-removes, adding-adds, unmatched-is-a-fault, cyclic-is-a-fault}
 use Rattle.scheme.proofs.Theorems.{maximal-objects-are-the-list}
-use Rattle.book.proofs.Theorems.{fault-means, read-exactly, number-means, scheme-well-formed, tables-of-book}
-use Rattle.book.proofs.Theorems.{maximal-objects-of-book}
+use Rattle.scheme.proofs.Examples.{trials-hold as scheme-trials-hold}
+use Rattle.book.proofs.Theorems.{fault-means, read-exactly, number-means, accepted-say, row-in-bytes, scheme-well-formed}
+use Rattle.book.proofs.Theorems.{maximal-objects-read, tables-of-book, maximal-objects-of-book}
+use Rattle.book.proofs.Examples.{trials-hold as book-trials-hold, layouts-hold}
 use Rattle.relation.proofs.Examples.{trials-hold}
 use Rattle.trials.proofs.Starred.{starred-hold}
 
--- ---- demand 3, on the definitions
+-- ---- demand 2 for books
 
--- "every complete list of permitted reduction steps, of either form, ends with exactly the program's kept sets"
-pub demand-3-first-half : (X : ℕ) (F : Family) → OfAttributes F → KeptByEveryList X F
-demand-3-first-half = kept-by-every-list
+-- "A refusal is given exactly where its stated condition holds and that of none before it in the fixed order does": of a record
+pub refusals-of-a-record : (s : Scheme) (r : Record) → FaultMeans s r
+refusals-of-a-record = fault-means
 
--- demand 3 for all tables over attributes 0 to 31, any rows, and any non-empty wanted columns of them
-pub demand-3-on-definitions : (kinds : List ℕ) (Ts : List Table) (X : ℕ) → OfAttributes (family Ts) → X ⊆ union (family Ts)
+-- of a book
+pub refusals-of-a-book : (b : List ℕ) → ReadExactly b × NumberMeans b
+refusals-of-a-book b = (read-exactly b, number-means b)
+
+-- what a book says is what its accepted records say: scheme, positions of rows, tables
+pub book-of-its-records : (b : List ℕ) (rs : List Record) (o : Outcome) (at : ℕ) → Accepted b rs (o .scheme) (o .rows) at
+    → AcceptedSay b rs o at
+book-of-its-records = accepted-say
+
+pub rows-of-its-bytes : (b : List ℕ) (at : ℕ) → RowInBytes b at
+rows-of-its-bytes = row-in-bytes
+
+pub tables-of-a-book : (b : List ℕ) (M : ℕ) → TablesOfBook b M
+tables-of-a-book = tables-of-book
+
+-- "The maximal objects .. are exactly those of the definitions"
+pub maximal-objects-of-a-book : (b : List ℕ) → MaximalObjectsRead b
+maximal-objects-of-a-book = maximal-objects-read
+
+-- ---- demand 3
+
+-- "Every list of permitted reduction steps .. ends with exactly the program's kept sets, each once, whether the steps drop
+-- columns and contained sets or whole covered objects": for all families of sets of attributes 0 to 31
+pub every-list-of-steps : (X : ℕ) (F : Family) → OfAttributes F → KeptByEveryList X F
+every-list-of-steps = kept-by-every-list
+
+-- demand 3 whole: for all tables over attributes 0 to 31, any rows, and any non-empty wanted columns of them
+pub demand-3-of-tables : (kinds : List ℕ) (Ts : List Table) (X : ℕ) → OfAttributes (family Ts) → X ⊆ union (family Ts)
     → (a : ℕ) × (a ∈ X) → Demand3 kinds Ts X
-demand-3-on-definitions = demand3
+demand-3-of-tables = demand3
 
--- demand 3 for every maximal object of every book not refused
-pub demand-3-for-books : (b : List ℕ) → MaximalObjectsOfBook b
-demand-3-for-books = maximal-objects-of-book
+-- "For every book that isn't refused, whatever rows its tables hold, each of its maximal objects and any wanted columns of
+-- it, one at least"
+pub demand-3-of-books : (b : List ℕ) → MaximalObjectsOfBook b
+demand-3-of-books = maximal-objects-of-book
 
--- ---- demand 2, refusals of a book
+-- ---- the comparison table
 
-pub demand-2-refusals-of-a-book : (b : List ℕ) → NumberMeans b
-demand-2-refusals-of-a-book = number-means
+pub allowed-operators : TableAllows
+allowed-operators = table-allows

@@ -3,3 +3,4 @@ pub mod Values
 pub mod Operators
 pub mod Table
 pub mod Theorems
+pub mod Examples
