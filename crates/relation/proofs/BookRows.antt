@@ -1,22 +1,22 @@
 -- Rows in a book's bytes: where the cell of an attribute stands, and the loops over the members of a set.
--- In order: the place of a cell, tests over the members of a set, the test of two rows.
+-- In order: the place of a cell, tests over the members of a set.
 -- Assumes nothing.
 use mathlib.Core.Path.{_≡_, refl, sym, ap, _∙_, subst}
 use mathlib.Core.Bool.{Bool, true, false, _&&_}
-use mathlib.Core.List.{List, [], _∷_}
+use mathlib.Core.List.{List}
 use Prim.Native.Nat.{ℕ, zero, suc, _+_, _*_, _^_, _≤_, _<_}
-use native.Mathlib.Nat.{lt-of-le-of-lt, lt-of-lt-of-le, le-trans}
+use native.Mathlib.Nat.{lt-of-le-of-lt, lt-of-lt-of-le}
 use native.Mathlib.Omega.{arith}
 use lib.ListN.{length, getD}
-use Rattle.sets.specs.Sets.{bit, _∈_, _⊆_, _∩_, has, remove, single, rank, lowest, members}
+use Rattle.sets.specs.Sets.{bit, _∈_, _⊆_, has, remove, single, rank, lowest, members}
 use Rattle.sets.proofs.Bits.{member-lt, in-out}
 use Rattle.sets.proofs.Sets.{⊆-le, ⊆-lt, ⊆-refl, ⊆-trans, ∖-⊆, remove-out, some-member}
 use Rattle.sets.proofs.Ranks.{rank-lt-count, lowest-in, lowest-le-member}
 use Rattle.sets.proofs.Members.{members-lowest}
 use Rattle.records.specs.Fields.{field}
-use Rattle.relation.specs.Tables.{Row, cellOf, Table}
-use Rattle.relation.specs.Computed.{allPass, rowsMatch}
-use Rattle.relation.specs.BookRows.{rowOf, RowThere, matchOn}
+use Rattle.relation.specs.Tables.{cellOf}
+use Rattle.relation.specs.Computed.{allPass}
+use Rattle.relation.specs.BookRows.{rowOf, RowThere}
 
 -- ---- the place of a cell
 
@@ -96,10 +96,3 @@ module _ {test : ℕ → Bool} {on rest : ℕ} (v : PassedSoFar test on rest) (h
 pub pass-end : {test : ℕ → Bool} {on rest : ℕ} → PassedSoFar test on rest → rest ≡ 0 → true ≡ allPass test (members 32 on)
 unfolding allPass members has bit
 pass-end {test} {on} v z = ap (λ (x : ℕ). allPass test (members 32 x)) (sym z) ∙ v .same
-
--- ---- the test of two rows is the one on all attributes that their tables share
-
-pub rowsMatch-on : (kinds : List ℕ) (T : Table) (r : Row) (U : Table) (q : Row)
-    → rowsMatch kinds T r U q ≡ matchOn kinds (T .set ∩ U .set) (T .set) r (U .set) q
-unfolding rowsMatch matchOn
-rowsMatch-on kinds T r U q = refl

@@ -5,7 +5,7 @@
 use mathlib.Core.Path.{_≡_, refl, sym, subst₂}
 use mathlib.Core.List.{List, [], _∷_, map, List·Memᴰ, List·Memᴰ·head, List·Memᴰ·tail, List·Memᴰ·not-nil}
 use mathlib.Core.List.{head-eq-of-cons-eq}
-use Prim.Native.Nat.{ℕ, _<_}
+use Prim.Native.Nat.{ℕ}
 use native.Mathlib.Omega.{arith}
 use lib.Dec.{lit<}
 use Rattle.sets.specs.Sets.{bit, has, within, _∩_, _∪_, single, isEmpty, rank, members}
@@ -42,9 +42,13 @@ trips = record { set = 5; rows = (10 ∷ 7 ∷ []) ∷ (10 ∷ 8 ∷ []) ∷ (11
 unfoldable pub paired : List Table
 paired = leads ∷ trips ∷ []
 
+-- a table with no row
+abbrev pub noRows : ℕ → Table
+noRows S = record { set = S; rows = [] }
+
 -- stations, and a table of trips that shares nothing with them and has no row
 unfoldable pub apart : List Table
-apart = record { set = 1; rows = (10 ∷ []) ∷ [] } ∷ record { set = 4; rows = [] } ∷ []
+apart = record { set = 1; rows = (10 ∷ []) ∷ [] } ∷ noRows 4 ∷ []
 
 -- ---- kept sets and joins
 
@@ -155,3 +159,28 @@ survey-disagrees agree =
     no-trip (List·Memᴰ·tail (List·Memᴰ·tail (List·Memᴰ·head e))) =
         let z : _≡_ {A = ℕ} 12 13 = head-eq-of-cons-eq e in omega arith
     no-trip (List·Memᴰ·tail (List·Memᴰ·tail (List·Memᴰ·tail m))) = List·Memᴰ·not-nil m
+
+-- two tables with no row agree: those of leads and of trips, which share STATION, and two that share nothing
+pub empty-tables-agree : AgreePairwise (noRows 3 ∷ noRows 5 ∷ []) × AgreePairwise (noRows 1 ∷ noRows 4 ∷ [])
+unfolding project
+empty-tables-agree = (agree 3 5, agree 1 4)
+  where
+    same : (S S′ : ℕ) → Shared (noRows S) (noRows S′)
+    same S S′ = record { firstInSecond = λ row m. m; secondInFirst = λ row m. m }
+
+    agree : (S S′ : ℕ) → AgreePairwise (noRows S ∷ noRows S′ ∷ [])
+    agree S S′ = two-agree (noRows S) (noRows S′) (same S S′) (same S′ S)
+
+-- an empty table and a filled one do not: leads and no trips, which share STATION
+pub leads-and-no-trips-disagree : AgreePairwise (leads ∷ noRows 5 ∷ []) → ⊥
+unfolding project projected cellOf rank members has bit _∩_
+leads-and-no-trips-disagree agree =
+    List·Memᴰ·not-nil (agree .shared leads (noRows 5) (List·Memᴰ·head refl) (List·Memᴰ·tail (List·Memᴰ·head refl))
+    .firstInSecond (10 ∷ []) (List·Memᴰ·head refl))
+
+-- and stations and no trips, which share nothing
+pub apart-disagrees : AgreePairwise apart → ⊥
+unfolding apart project projected cellOf rank members has bit _∩_
+apart-disagrees agree =
+    List·Memᴰ·not-nil (agree .shared _ _ (List·Memᴰ·head refl) (List·Memᴰ·tail (List·Memᴰ·head refl))
+    .firstInSecond [] (List·Memᴰ·head refl))

@@ -1,5 +1,6 @@
 -- The laws of `relation` that callers cite. Assumes nothing.
 pub mod Tables
+pub mod Agreement
 pub mod Fitting
 pub mod KeptSets
 pub mod Backwards

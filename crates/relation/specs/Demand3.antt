@@ -1,6 +1,9 @@
--- Demand 3, for the tables of a maximal object and wanted columns X: "every complete list of permitted reduction
--- steps, of either form, ends with exactly the program's kept sets; and whichever objects stand for the kept sets,
--- the join over them has every row of the full join on those columns, and no other where the tables agree pairwise."
+-- Demand 3, for the tables of a maximal object and wanted columns X: "Every list of permitted reduction steps that
+-- starts from the maximal object's own sets, each step taken on what the one before left, and stops only where none is
+-- permitted, ends with exactly the program's kept sets, each once, whether the steps drop columns and contained sets or
+-- whole covered objects. Whichever object of the maximal object stands for each kept set, the join over those kept sets
+-- has every row of the full join on the wanted columns; and where the tables of the maximal object agree pairwise, it
+-- has exactly those rows and no other."
 -- `demand3` of `proofs/Theorems.antt` proves it for all tables over attributes 0 to 31, whatever their rows, and every
 -- non-empty X of their attributes.
 -- Assumes nothing.
@@ -12,16 +15,17 @@ use Rattle.relation.specs.Tables.{Row, Table, family}
 use Rattle.relation.specs.Joins.{AgreePairwise, InFullJoin, StandFor, keptSets, InKeptJoin, lowestStanding}
 
 pub record Demand3 (kinds : List ℕ) (Ts : List Table) (X : ℕ) : Type 0 where
-  -- "every complete list of permitted reduction steps, of either form, ends with exactly the program's kept sets",
-  -- "equal to them as a set of attribute sets, with none left twice"; and complete lists of both forms exist
+  -- "ends with exactly the program's kept sets, each once": "equal to them as a set of attribute sets, with none left
+  -- twice"; and complete lists of both forms exist
   pub everyList : KeptByEveryList X (family Ts)
   -- "each kept set is shown by the lowest-numbered object of M that contains it": this choice is one of those that may
   -- stand, so there is one, and what follows holds of it
   pub programsChoice : StandFor Ts (keptSets Ts X) (lowestStanding Ts (keptSets Ts X))
-  -- "whichever objects stand for the kept sets, the join over them has every row of the full join on those columns"
+  -- "Whichever object of the maximal object stands for each kept set, the join over those kept sets has every row of
+  -- the full join on the wanted columns"
   pub everyRow : (cs : List ℕ) → StandFor Ts (keptSets Ts X) cs → (row : Row) → InFullJoin kinds Ts X row
       → InKeptJoin kinds Ts X cs row
-  -- "and no other where the tables agree pairwise"
+  -- "where the tables of the maximal object agree pairwise, it has exactly those rows and no other"
   pub noOther : AgreePairwise Ts → (cs : List ℕ) → StandFor Ts (keptSets Ts X) cs → (row : Row)
       → InKeptJoin kinds Ts X cs row → InFullJoin kinds Ts X row
   -- "compares it with the full join on X, as sets of rows, for every such choice": there the two are equal

@@ -1,15 +1,16 @@
 -- What is proved of joins, for all tables over attributes 0 to 31, whatever their rows. Demand 3 as a whole is in
 -- `Demand3`; here are its parts on joins and what stands beside them.
--- In order: tables that share no attribute, no row is lost, no other row, the lowest-numbered objects, computed joins.
--- The proofs are in `proofs/Theorems.antt`.
+-- In order: tables that share no attribute, tables that agree pairwise, no row is lost, no other row, the
+-- lowest-numbered objects, computed joins. The proofs are in `proofs/Theorems.antt`.
 -- Assumes nothing.
 use mathlib.Core.Path.{_≡_}
+use mathlib.Core.Logic.{_⊎_, _↔_}
 use mathlib.Core.List.{List, [], List·Memᴰ}
 use Prim.Native.Nat.{ℕ, _<_}
 use lib.ListN.{length, getD}
-use Rattle.sets.specs.Sets.{_⊆_, _∩_}
+use Rattle.sets.specs.Sets.{_∈_, _∉_, _⊆_, _∩_}
 use Rattle.reduction.specs.Steps.{at}
-use Rattle.relation.specs.Tables.{Row, Table, SameRows, tableAt, project}
+use Rattle.relation.specs.Tables.{Row, cellOf, Table, SameRows, tableAt, project}
 use Rattle.relation.specs.Joins.{AgreePairwise, Picked, Matching, InJoin, InFullJoin, StandFor, keptSets}
 use Rattle.relation.specs.Joins.{InKeptJoin, lowestStanding}
 use Rattle.relation.specs.Computed.{combinations, joinRows, part}
@@ -22,12 +23,40 @@ pub record NothingShared (T U : Table) : Type 0 where
   pub back : (T .rows ≡ [] → U .rows ≡ []) × (U .rows ≡ [] → T .rows ≡ [])
       → SameRows (project (T .set ∩ U .set) T) (project (T .set ∩ U .set) U)
 
--- "whichever objects stand for the kept sets, the join over them has every row of the full join on those columns"
+-- a row of U has the same cell as row r of T under every attribute that both tables have
+pub record ShownBy (U T : Table) (r : Row) : Type 0 where
+  pub row : Row
+  pub there : List·Memᴰ row (U .rows)
+  pub cells : (a : ℕ) → a ∈ T .set → a ∈ U .set → cellOf (U .set) row a ≡ cellOf (T .set) r a
+
+-- U has such a row for each row of T
+abbrev pub ShowsEach : Table → Table → Type 0
+ShowsEach U T = (r : Row) → List·Memᴰ r (T .rows) → ShownBy U T r
+
+-- "both are empty or neither is"
+abbrev pub BothEmptyOrNeither : Table → Table → Type 0
+BothEmptyOrNeither T U = ((T .rows ≡ []) × (U .rows ≡ [])) ⊎ ((T .rows ≡ [] → ⊥) × (U .rows ≡ [] → ⊥))
+
+-- the two clauses of agreement taken apart: of two tables that share an attribute, and of two that share none
+pub record AgreeByClauses (Ts : List Table) : Type 0 where
+  -- "any two objects of M show the same rows on the attributes they share"
+  pub sharing : (T U : Table) → List·Memᴰ T Ts → List·Memᴰ U Ts → (a : ℕ) → a ∈ T .set → a ∈ U .set
+      → ShowsEach U T × ShowsEach T U
+  -- "where they share none, both are empty or neither is"
+  pub sharingNone : (T U : Table) → List·Memᴰ T Ts → List·Memᴰ U Ts → ((a : ℕ) → a ∈ T .set → a ∉ U .set)
+      → BothEmptyOrNeither T U
+
+-- tables agree pairwise exactly if both clauses hold
+pub record AgreementByClauses (Ts : List Table) : Type 0 where
+  pub exactly : AgreeByClauses Ts ↔ AgreePairwise Ts
+
+-- "Whichever object of the maximal object stands for each kept set, the join over those kept sets has every row of the
+-- full join on the wanted columns"
 pub record EveryRow (kinds : List ℕ) (Ts : List Table) (X : ℕ) : Type 0 where
   pub kept : (cs : List ℕ) → StandFor Ts (keptSets Ts X) cs → (row : Row) → InFullJoin kinds Ts X row
       → InKeptJoin kinds Ts X cs row
 
--- ".. and no other where the tables agree pairwise"
+-- "where the tables of the maximal object agree pairwise, it has exactly those rows and no other"
 pub record NoOtherRow (kinds : List ℕ) (Ts : List Table) (X : ℕ) : Type 0 where
   pub agreed : AgreePairwise Ts → (cs : List ℕ) → StandFor Ts (keptSets Ts X) cs → (row : Row)
       → InKeptJoin kinds Ts X cs row → InFullJoin kinds Ts X row
