@@ -1,4 +1,5 @@
-// Reads the book of standard input a thousand times, for bench/read_book.sh to time, and writes what the last reading found.
+// Reads the book of standard input a thousand times, for bench/read_book.sh to time, and writes what the last reading
+// found.
 use libc::STDIN_FILENO;
 use libc::STDOUT_FILENO;
 ghost use Prim.Native.Nat.{_≤_};

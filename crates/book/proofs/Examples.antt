@@ -108,7 +108,7 @@ unfolding trials survey ring angles eight result read afterLast lastFault lastNu
     removable someHolds around union inRange members rank isEmpty single _∖_ _∪_ _∩_ within has bit
 trials-hold = refl
 
--- ---- what books declare: the value kinds, the objects' sets, both sides of the dependencies, the kind 5 and kind 6 sets,
+-- ---- what books declare: value kinds, the sets of objects, both sides of the dependencies, kind 5 and kind 6 sets,
 -- each with a place more; the sets of attributes and objects and the counts; the positions of the rows
 
 unfoldable pub declares : List Record → List (List ℕ)
@@ -161,8 +161,8 @@ layouts =
     ∷ []
 
 pub layouts-hold : map (λ l. l .gives) layouts ≡ map (λ l. l .says) layouts
-unfolding layouts declares tables flatMap tablesOf rowsOf rowOf cellsOf survey mixed read afterLast lastFault lastNumber records
-    readFrom shortFault withRow isRow declare withRemoved withDeclared withDependency withObject withAttribute
+unfolding layouts declares tables flatMap tablesOf rowsOf rowOf cellsOf survey mixed read afterLast lastFault lastNumber
+    records readFrom shortFault withRow isRow declare withRemoved withDeclared withDependency withObject withAttribute
     nothingDeclared faultOf checks maximalChecks rowChecks wrongCells someOutside someNonZero firstOf ofBook cyclicOf
     unmatchedOf maximalOf computedOf pairs someCyclic someUnmatched maximalObjects adding removing isOne computed grown
     rounds holding joins attributesOf familyOf closure passes pass cellOf readAt readFront recordOf bodies bytesOfAll

@@ -1,4 +1,5 @@
--- The scheme, the positions and the rows of accepted records are what the records say, by induction on the records accepted.
+-- The scheme, the positions and the rows of accepted records are what the records say, by induction on the records
+-- accepted.
 -- In order: one record more, records of other kinds, the scheme, the rows, the tables, the row of a record in bytes.
 -- Assumes nothing.
 use mathlib.Core.Path.{_≡_, refl, sym, ap, _∙_, subst}
@@ -34,14 +35,16 @@ use Rattle.relation.specs.BookRows as BookRows
 use Rattle.scheme.specs.declared.Scheme.{Scheme}
 use Rattle.scheme.specs.OfScheme.{pairs, dependenciesOf, declaredOf, removedOf}
 use Rattle.book.specs.Faults.{faultOf}
-use Rattle.book.specs.Declaring.{nothingDeclared, declare, withAttribute, withObject, withDependency, withDeclared}
+use Rattle.book.specs.Declaring.{nothingDeclared, declare, withAttribute, withObject, withDependency}
+use Rattle.book.specs.Declaring.{withDeclared}
 use Rattle.book.specs.Declaring.{withRemoved}
 use Rattle.book.specs.Reading.{Outcome, isRow, withRow}
 use Rattle.book.specs.Accepting.{Accepted, none, one}
 use Rattle.book.specs.WellFormed.{WellFormed}
 use Rattle.book.specs.TablesOf.{cellsOf, rowOf, rowsOf, tablesOf}
 use Rattle.book.specs.RecordsSay.{Gathered, ended, taken, passedOver, SaysDependency, SaysDeclared, SaysRemoved}
-use Rattle.book.specs.RecordsSay.{SaysRow, ByNumber, ZeroFrom, SchemeSaid, RowsAt, behindLast, row, noRow, RowsSaid}
+use Rattle.book.specs.RecordsSay.{SaysRow, ByNumber, ZeroFrom, SchemeSaid, RowsAt, behindLast, row, noRow}
+use Rattle.book.specs.RecordsSay.{RowsSaid}
 use Rattle.book.specs.RecordsSay.{TableSaid}
 use Rattle.book.proofs.Lists.{getD-zeros}
 use Rattle.book.proofs.Declaring.{NewAttribute, NewObject, NewDependency, NewMaximal, attribute-accepted}

@@ -1,5 +1,5 @@
--- What the records of a book say, by their fields alone: those of the records of one kind, in their order, all of them and no
--- other. That the scheme, the positions and the rows that reading gives are these is a theorem (`Statements`).
+-- What the records of a book say, by their fields alone: those of the records of one kind, in their order, all of them
+-- and no other. That the scheme, the positions and the rows that reading gives are these is a theorem (`Statements`).
 -- In order: the fields of one kind in order, the fields of one kind by number, the scheme, the rows, a table.
 -- Assumes nothing.
 use mathlib.Core.Path.{_≡_}
@@ -20,7 +20,8 @@ use Rattle.book.specs.TablesOf.{rowsOf}
 
 -- ---- the fields of one kind in order
 
--- xs is what some of the records say, in their order: each record that says something gives one of xs, and each other none
+-- xs is what some of the records say, in their order: each record that says something gives one of xs, and each other
+-- none
 pub data Gathered {A : Type 0} (Says : Record → A → Type 0) : List Record → List A → Type 0 where
   ended : Gathered Says [] []
   taken : {r : Record} {rs : List Record} {x : A} {xs : List A} → Says r x → Gathered Says rs xs
@@ -85,8 +86,8 @@ pub data RowsAt : ℕ → List Record → List ℕ → Type 0 where
   noRow : {at : ℕ} {r : Record} {rs : List Record} {rows : List ℕ} → (kindOf r ≡ 4 → ⊥)
       → RowsAt (at + length (bytesOf r)) rs rows → RowsAt at (r ∷ rs) rows
 
--- the records stand in b from its start on, up to a position; the positions are those of their rows, and the rows of each
--- object are the cells of its row records
+-- the records stand in b from its start on, up to a position; the positions are those of their rows, and the rows of
+-- each object are the cells of its row records
 pub record RowsSaid (b : List ℕ) (rs : List Record) (rows : List ℕ) (at : ℕ) : Type 0 where
   pub read : Reads b 0 rs at
   pub positions : RowsAt 0 rs rows

@@ -104,8 +104,8 @@ pub record RowInBytes (b : List ℕ) (at : ℕ) : Type 0 where
 pub record SchemeWellFormed (b : List ℕ) : Type 0 where
   pub wellFormed : WellFormed (read b .scheme)
 
--- "Growing maximal objects", for the scheme of any book: an object joins by the rule, the computed sets are those that grow
--- from its objects, and the maximal objects are those that are not removed and those declared
+-- "Growing maximal objects", for the scheme of any book: an object joins by the rule, the computed sets are those that
+-- grow from its objects, and the maximal objects are those that are not removed and those declared
 pub record MaximalObjectsRead (b : List ℕ) : Type 0 where
   pub joining : (H : ℕ) → H < 2 ^ 32 → (k : ℕ)
       → JoinsByTheRule (dependenciesOf (read b .scheme)) (read b .scheme .sets) H k

@@ -1,5 +1,5 @@
-// Rows of a book in its bytes: the cell of an attribute, and what two rows have in common. A row is given by the position of
-// its record and the attribute set of its object.
+// Rows of a book in its bytes: the cell of an attribute, and what two rows have in common. A row is given by the
+// position of its record and the attribute set of its object.
 ghost use mathlib.Core.Path.{_≡_};
 ghost use Prim.Native.Nat.{_<_};
 ghost use lib.ListN.{length};

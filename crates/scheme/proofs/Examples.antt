@@ -48,7 +48,8 @@ abbrev ring : ℕ → List ℕ
 ring objects =
     elim (someCyclic ringSets (maximalObjects ringDependencies ringSets objects [] [])) [ true ↦ 9 ∷ [] | false ↦ [] ]
 
--- ---- two objects that do not join: AB and AC with B to C. They share A, which does not determine C, though all that AB
+-- ---- two objects that do not join: AB and AC with B to C. They share A, which does not determine C, though all that
+-- AB
 -- has does
 
 abbrev apart : List ℕ

@@ -1,5 +1,5 @@
--- The names that docs/STATEMENTS.md gives. A name that is only imported is refused here once it is gone; a theorem that stands
--- below as a typed line is refused as soon as it says something else, too.
+-- The names that docs/STATEMENTS.md gives. A name that is only imported is refused here once it is gone; a theorem that
+-- stands below as a typed line is refused as soon as it says something else, too.
 -- In order: contracts and theorems, imported; then as typed lines demand 2 for books, demand 3, the comparison table.
 -- Assumes nothing.
 use mathlib.Core.Path.{_≡_}
@@ -61,27 +61,37 @@ use Rattle.scheme.proofs.computed.Met.{met as scheme-computed}
 use Rattle.scheme.proofs.maximal_objects.Met.{met as scheme-maximal-objects}
 use Rattle.book.proofs.read.Met.{met as book-read}
 -- ---- theorems
-use Rattle.sets.proofs.Theorems.{members-of-sets, equal-sets, containment, rank-and-count, lowest-member, members-listed}
+use Rattle.sets.proofs.Theorems.{members-of-sets, equal-sets, containment, rank-and-count, lowest-member}
+use Rattle.sets.proofs.Theorems.{members-listed}
 use Rattle.values.proofs.Theorems.{ordered-by-value, operators-mean, table-allows, allowed-means, turned}
+use Rattle.values.proofs.Examples.{trials-hold as values-trials-hold}
 use Rattle.records.proofs.Theorems.{fields-inverse, kind-then-body, reads-back, was-written, answers-mean}
 use Rattle.records.proofs.Examples.{examples-written, examples-read}
+use Rattle.reduction.proofs.Theorems.{node-form-permits, cover-form-permits, steps-in-family, step-leaves}
 use Rattle.reduction.proofs.Theorems.{kept-by-every-list, cover-order, reduces-to-nothing, kept-set-laws}
 use Rattle.reduction.proofs.Examples.{examples-hold, triangle-is-cyclic, filled-triangle-is-acyclic}
-use Rattle.relation.proofs.Theorems.{nothing-shared, every-row, no-other-row, lowest-stands, join-computed, part-computed, demand3}
+use Rattle.reduction.proofs.Examples.{station-by-node-steps, station-by-cover-steps, leads-and-trips-by-steps}
+use Rattle.reduction.proofs.Examples.{customers-and-banks-by-node-steps, customers-and-banks-by-cover-steps}
+use Rattle.relation.proofs.Theorems.{nothing-shared, agreement-by-clauses, every-row, no-other-row, lowest-stands}
+use Rattle.relation.proofs.Theorems.{join-computed, part-computed, demand3}
 use Rattle.scheme.proofs.Theorems.{closure-is-least, closure-is-monotone, object-joins-by-the-rule, grown-is-least}
 use Rattle.scheme.proofs.Theorems.{grown-is-the-same-in-every-order}
-use Rattle.scheme.proofs.Theorems.{computed-is-the-list, removing-removes, adding-adds, unmatched-is-a-fault, cyclic-is-a-fault}
+use Rattle.scheme.proofs.Theorems.{computed-is-the-list, removing-removes, adding-adds, unmatched-is-a-fault}
+use Rattle.scheme.proofs.Theorems.{cyclic-is-a-fault}
 use Rattle.scheme.proofs.Theorems.{maximal-objects-are-the-list}
 use Rattle.scheme.proofs.Examples.{trials-hold as scheme-trials-hold}
-use Rattle.book.proofs.Theorems.{fault-means, read-exactly, number-means, accepted-say, row-in-bytes, scheme-well-formed}
+use Rattle.book.proofs.Theorems.{fault-means, read-exactly, number-means, accepted-say, row-in-bytes}
+use Rattle.book.proofs.Theorems.{scheme-well-formed}
 use Rattle.book.proofs.Theorems.{maximal-objects-read, tables-of-book, maximal-objects-of-book}
 use Rattle.book.proofs.Examples.{trials-hold as book-trials-hold, layouts-hold}
-use Rattle.relation.proofs.Examples.{trials-hold}
+use Rattle.relation.proofs.Examples.{trials-hold, each-may-stand, paired-agree, survey-disagrees, empty-tables-agree}
+use Rattle.relation.proofs.Examples.{leads-and-no-trips-disagree, apart-disagrees}
 use Rattle.trials.proofs.Starred.{starred-hold}
 
 -- ---- demand 2 for books
 
--- "A refusal is given exactly where its stated condition holds and that of none before it in the fixed order does": of a record
+-- "A refusal is given exactly where its stated condition holds and that of none before it in the fixed order does": of
+-- a record
 pub refusals-of-a-record : (s : Scheme) (r : Record) → FaultMeans s r
 refusals-of-a-record = fault-means
 
@@ -106,8 +116,8 @@ maximal-objects-of-a-book = maximal-objects-read
 
 -- ---- demand 3
 
--- "Every list of permitted reduction steps .. ends with exactly the program's kept sets, each once, whether the steps drop
--- columns and contained sets or whole covered objects": for all families of sets of attributes 0 to 31
+-- "Every list of permitted reduction steps .. ends with exactly the program's kept sets, each once, whether the steps
+-- drop columns and contained sets or whole covered objects": for all families of sets of attributes 0 to 31
 pub every-list-of-steps : (X : ℕ) (F : Family) → OfAttributes F → KeptByEveryList X F
 every-list-of-steps = kept-by-every-list
 
@@ -116,8 +126,8 @@ pub demand-3-of-tables : (kinds : List ℕ) (Ts : List Table) (X : ℕ) → OfAt
     → (a : ℕ) × (a ∈ X) → Demand3 kinds Ts X
 demand-3-of-tables = demand3
 
--- "For every book that isn't refused, whatever rows its tables hold, each of its maximal objects and any wanted columns of
--- it, one at least"
+-- "For every book that isn't refused, whatever rows its tables hold, each of its maximal objects and any wanted columns
+-- of it, one at least"
 pub demand-3-of-books : (b : List ℕ) → MaximalObjectsOfBook b
 demand-3-of-books = maximal-objects-of-book
 

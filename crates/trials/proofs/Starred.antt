@@ -1,5 +1,5 @@
--- The starred trials of the paper, in one list under one theorem: what the definitions give beside what the paper says. Those
--- of queries are not here yet.
+-- The starred trials of the paper, in one list under one theorem: what the definitions give beside what the paper says.
+-- Those of queries are not here yet.
 -- In order: the books, the trials.
 -- Assumes nothing.
 use mathlib.Core.Path.{_≡_, refl}
@@ -20,17 +20,20 @@ use Rattle.scheme.specs.Dependencies.{pass, passes, closure}
 use Rattle.scheme.specs.Growing.{familyOf, attributesOf, joins, holding, rounds, grown}
 use Rattle.scheme.specs.MaximalObjects.{computed, isOne, removing, adding, maximalObjects, someUnmatched, someCyclic}
 use Rattle.scheme.specs.OfScheme.{pairs, computedOf, maximalOf, unmatchedOf, cyclicOf}
-use Rattle.book.specs.Faults.{ofBook, firstOf, someNonZero, someOutside, wrongCells, rowChecks, maximalChecks, checks, faultOf}
-use Rattle.book.specs.Declaring.{nothingDeclared, withAttribute, withObject, withDependency, withDeclared, withRemoved, declare}
-use Rattle.book.specs.Reading.{Outcome, isRow, withRow, shortFault, readFrom, records, lastNumber, lastFault, afterLast, read}
+use Rattle.book.specs.Faults.{ofBook, firstOf, someNonZero, someOutside, wrongCells, rowChecks, maximalChecks, checks}
+use Rattle.book.specs.Faults.{faultOf}
+use Rattle.book.specs.Declaring.{nothingDeclared, withAttribute, withObject, withDependency, withDeclared, withRemoved}
+use Rattle.book.specs.Declaring.{declare}
+use Rattle.book.specs.Reading.{Outcome, isRow, withRow, shortFault, readFrom, records, lastNumber, lastFault, afterLast}
+use Rattle.book.specs.Reading.{read}
 use Rattle.book.specs.Reading.{maximalsOf}
 use Rattle.book.proofs.Examples.{survey, ring}
 
 -- ---- the books
 
--- "Document 000's banking scheme, seven objects in the order of its example 3": 0 BANK, 1 ACCT, 2 BALANCE, 3 CUST, 4 ADDR,
--- 5 LOAN, 6 AMT; objects ACCT-BALANCE, ACCT-CUST, ACCT-BANK, CUST-ADDR, CUST-LOAN, LOAN-BANK, LOAN-AMT; dependencies
--- ACCT to BANK, ACCT to BALANCE, LOAN to AMT, CUST to ADDR
+-- "Document 000's banking scheme, seven objects in the order of its example 3": 0 BANK, 1 ACCT, 2 BALANCE, 3 CUST, 4
+-- ADDR, 5 LOAN, 6 AMT; objects ACCT-BALANCE, ACCT-CUST, ACCT-BANK, CUST-ADDR, CUST-LOAN, LOAN-BANK, LOAN-AMT;
+-- dependencies ACCT to BANK, ACCT to BALANCE, LOAN to AMT, CUST to ADDR
 unfoldable pub banking : List Record
 banking =
     Attribute 0 0 ∷ Attribute 1 0 ∷ Attribute 2 1 ∷ Attribute 3 0 ∷ Attribute 4 0 ∷ Attribute 5 0 ∷ Attribute 6 1
@@ -60,11 +63,13 @@ starred =
     ∷ []
 
 pub starred-hold : map (λ t. t .gives) starred ≡ map (λ t. t .says) starred
-unfolding starred banking sizes survey ring read afterLast lastFault lastNumber records readFrom shortFault withRow isRow
-    maximalsOf declare withRemoved withDeclared withDependency withObject withAttribute nothingDeclared faultOf checks
+unfolding starred banking sizes survey ring read afterLast lastFault lastNumber records readFrom shortFault withRow
+    isRow maximalsOf declare withRemoved withDeclared withDependency withObject withAttribute nothingDeclared faultOf
+    checks
     maximalChecks rowChecks wrongCells someOutside someNonZero firstOf ofBook cyclicOf unmatchedOf maximalOf computedOf
     pairs someCyclic someUnmatched maximalObjects adding removing isOne computed grown rounds holding joins attributesOf
-    familyOf closure passes pass cellOf readAt readFront recordOf bodies bytesOfAll bytesOf kindOf bodyLength bodyLengths
+    familyOf closure passes pass cellOf readAt readFront recordOf bodies bytesOfAll bytesOf kindOf bodyLength
+    bodyLengths
     isKind field value bytes kept keptOf keeps goes goesFor acyclic left settle staying stays removable someHolds around
     union inRange members rank isEmpty single _∖_ _∪_ _∩_ within has bit
 starred-hold = refl

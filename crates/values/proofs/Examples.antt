@@ -1,4 +1,5 @@
--- Worked examples: operators by their numbers on two cells of a kind, what the definitions give beside what the paper says.
+-- Worked examples: operators by their numbers on two cells of a kind, what the definitions give beside what the paper
+-- says.
 -- In order: the operators on two cells, ranges.
 -- Assumes nothing.
 use mathlib.Core.Path.{_≡_, refl}

@@ -1,5 +1,5 @@
--- `relation::rows_equal` meets its contract. The invariant: the cells under the attributes of `on` that are not of `rest` are
--- equal (`PassedSoFar`). The measure: `rest`, which a turn makes smaller. Assumes nothing.
+-- `relation::rows_equal` meets its contract. The invariant: the cells under the attributes of `on` that are not of
+-- `rest` are equal (`PassedSoFar`). The measure: `rest`, which a turn makes smaller. Assumes nothing.
 use mathlib.Core.Path.{sym, ap₂, _∙_}
 use mathlib.Core.Bool.{Bool}
 use Prim.Native.Nat.{ℕ}
@@ -7,7 +7,8 @@ use lib.Dec.{eqb}
 use borrow.Author.Tests.{eq-eqb, ne-eqb}
 use Rattle.relation.specs.Tables.{cellOf}
 use Rattle.relation.specs.BookRows.{rowOf, equalAt, equalOn}
-use Rattle.relation.proofs.BookRows.{PassedSoFar, pass-start, tested-in, tested-below, pass-failed, pass-next, pass-less, pass-end}
+use Rattle.relation.proofs.BookRows.{PassedSoFar, pass-start, tested-in, tested-below, pass-failed, pass-next}
+use Rattle.relation.proofs.BookRows.{pass-less, pass-end}
 use borrow.Author.Needs.{needs}
 use Rattle.relation.proofs.rows_equal.Statement.{statement}
 use Rattle.relation.proofs.rows_equal.Tie as tie

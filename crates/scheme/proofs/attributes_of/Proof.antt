@@ -1,9 +1,10 @@
--- `scheme::attributes_of` meets its contract. The invariant: what is gathered is the attributes of the objects below `k`
--- (`AttributesSoFar`). The measure: the objects left. Assumes nothing.
+-- `scheme::attributes_of` meets its contract. The invariant: what is gathered is the attributes of the objects below
+-- `k` (`AttributesSoFar`). The measure: the objects left. Assumes nothing.
 use Prim.Native.Nat.{_-_}
 use mathlib.Core.Path.{sym, _∙_}
 use mathlib.Core.Logic.{⊎-elim}
-use Rattle.scheme.proofs.Loops.{AttributesSoFar, attributes-start, attributes-with, attributes-past, attributes-end}
+use Rattle.scheme.proofs.Loops.{AttributesSoFar, attributes-start, attributes-with, attributes-past}
+use Rattle.scheme.proofs.Loops.{attributes-end}
 use borrow.Author.Needs.{needs}
 use Rattle.scheme.proofs.attributes_of.Statement.{statement}
 use Rattle.scheme.proofs.attributes_of.Tie as tie

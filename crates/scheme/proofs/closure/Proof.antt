@@ -1,5 +1,5 @@
--- `scheme::closure` meets its contract. The invariant: some number of passes leads from the set to the closure, and `next` is
--- one pass (`Repeating`). The measure: 2 ^ 32 less the set, which a pass makes larger. Assumes nothing.
+-- `scheme::closure` meets its contract. The invariant: some number of passes leads from the set to the closure, and
+-- `next` is one pass (`Repeating`). The measure: 2 ^ 32 less the set, which a pass makes larger. Assumes nothing.
 use Prim.Native.Nat.{_-_, _^_}
 use mathlib.Core.Path.{refl}
 use Rattle.scheme.specs.Dependencies.{closure}

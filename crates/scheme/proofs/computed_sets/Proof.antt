@@ -1,5 +1,5 @@
--- `scheme::computed_sets` meets its contract: it is the definition, by its callees. The grown sets have 32 bits, so cutting
--- them to all attributes changes none. Assumes nothing.
+-- `scheme::computed_sets` meets its contract: it is the definition, by its callees. The grown sets have 32 bits, so
+-- cutting them to all attributes changes none. Assumes nothing.
 use mathlib.Core.Path.{_∙_}
 use Rattle.scheme.specs.OfScheme.{pairs}
 use Rattle.scheme.proofs.OfScheme.{computed-by}

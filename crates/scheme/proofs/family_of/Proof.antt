@@ -7,7 +7,8 @@ use native.Mathlib.Omega.{arith}
 use lib.ListN.{getD}
 use Rattle.reduction.specs.Packed.{padded}
 use Rattle.scheme.specs.Growing.{familyOf}
-use Rattle.scheme.proofs.Loops.{MembersSoFar, members-start, members-room, members-with, members-past, members-end}
+use Rattle.scheme.proofs.Loops.{MembersSoFar, members-start, members-room, members-with, members-past}
+use Rattle.scheme.proofs.Loops.{members-end}
 use borrow.Author.Needs.{needs}
 use Rattle.scheme.proofs.family_of.Statement.{statement}
 use Rattle.scheme.proofs.family_of.Tie as tie

@@ -1,4 +1,5 @@
--- `scheme::first` meets its contract: the part is the first n where there are more, and the whole list where there are not.
+-- `scheme::first` meets its contract: the part is the first n where there are more, and the whole list where there are
+-- not.
 -- Assumes nothing.
 use mathlib.Core.Path.{sym}
 use native.Mathlib.Nat.{le-of-lt}

@@ -1,5 +1,5 @@
--- `scheme::grow` meets its contract. The invariant: some number of rounds leads from the set to the grown one, and `next` is
--- one round (`Repeating`). The measure: 2 ^ 32 less the set, which a round makes larger. Assumes nothing.
+-- `scheme::grow` meets its contract. The invariant: some number of rounds leads from the set to the grown one, and
+-- `next` is one round (`Repeating`). The measure: 2 ^ 32 less the set, which a round makes larger. Assumes nothing.
 use Prim.Native.Nat.{_-_, _^_}
 use mathlib.Core.Path.{ap}
 use Rattle.scheme.specs.Growing.{rounds, grown}

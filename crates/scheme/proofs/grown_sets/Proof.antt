@@ -1,5 +1,5 @@
--- `scheme::grown_sets` meets its contract. The invariant: the array and the count are the sets grown from the objects below `k`
--- (`MembersSoFar`). The measure: the objects left. Assumes nothing.
+-- `scheme::grown_sets` meets its contract. The invariant: the array and the count are the sets grown from the objects
+-- below `k` (`MembersSoFar`). The measure: the objects left. Assumes nothing.
 use Prim.Native.Nat.{_-_}
 use mathlib.Core.Path.{refl, sym, _∙_}
 use mathlib.Core.Logic.{⊎-elim}
@@ -7,7 +7,8 @@ use native.Mathlib.Omega.{arith}
 use Rattle.reduction.specs.Packed.{padded}
 use Rattle.scheme.specs.Growing.{grown}
 use Rattle.scheme.specs.OfScheme.{pairs}
-use Rattle.scheme.proofs.Loops.{MembersSoFar, members-start, members-room, members-with, members-past, members-end}
+use Rattle.scheme.proofs.Loops.{MembersSoFar, members-start, members-room, members-with, members-past}
+use Rattle.scheme.proofs.Loops.{members-end}
 use borrow.Author.Needs.{needs}
 use Rattle.scheme.proofs.grown_sets.Statement.{statement}
 use Rattle.scheme.proofs.grown_sets.Tie as tie

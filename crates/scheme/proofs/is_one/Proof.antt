@@ -1,5 +1,5 @@
--- `scheme::is_one` meets its contract. The invariant: no place before `i` holds the set (`NoneSoFar`). The measure: the places
--- left. Assumes nothing.
+-- `scheme::is_one` meets its contract. The invariant: no place before `i` holds the set (`NoneSoFar`). The measure: the
+-- places left. Assumes nothing.
 use Prim.Native.Nat.{_-_}
 use mathlib.Core.Path.{sym}
 use lib.ListN.{length}

@@ -1,5 +1,5 @@
--- `scheme::pass` meets its contract. The invariant: the dependencies from `i` on, from what is gathered, give what all of them
--- give (`PassSoFar`). The measure: the dependencies left. Assumes nothing.
+-- `scheme::pass` meets its contract. The invariant: the dependencies from `i` on, from what is gathered, give what all
+-- of them give (`PassSoFar`). The measure: the dependencies left. Assumes nothing.
 use Prim.Native.Nat.{_-_}
 use mathlib.Core.Path.{sym, _∙_}
 use mathlib.Core.Logic.{⊎-elim}

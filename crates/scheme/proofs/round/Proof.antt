@@ -4,7 +4,8 @@ use Prim.Native.Nat.{_-_}
 use mathlib.Core.Path.{sym, _∙_}
 use mathlib.Core.Logic.{⊎-elim}
 use Rattle.scheme.specs.OfScheme.{pairs}
-use Rattle.scheme.proofs.Loops.{HoldingBelow, holding-start, holding-held, holding-joined, holding-apart, holding-other, holding-end}
+use Rattle.scheme.proofs.Loops.{HoldingBelow, holding-start, holding-held, holding-joined, holding-apart}
+use Rattle.scheme.proofs.Loops.{holding-other, holding-end}
 use borrow.Author.Needs.{needs}
 use Rattle.scheme.proofs.round.Statement.{statement}
 use Rattle.scheme.proofs.round.Tie as tie

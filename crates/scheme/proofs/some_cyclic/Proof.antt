@@ -1,4 +1,5 @@
--- `scheme::some_cyclic` meets its contract. The invariant: no set before `i` has a cycle (`NoneSoFar`). The measure: the sets left.
+-- `scheme::some_cyclic` meets its contract. The invariant: no set before `i` has a cycle (`NoneSoFar`). The measure:
+-- the sets left.
 -- Assumes nothing.
 use Prim.Native.Nat.{_-_}
 use mathlib.Core.Path.{sym, _∙_}

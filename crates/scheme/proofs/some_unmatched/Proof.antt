@@ -1,5 +1,5 @@
--- `scheme::some_unmatched` meets its contract. The invariant: each name before `i` is one of the list (`NoneSoFar`). The measure:
--- the names left. Assumes nothing.
+-- `scheme::some_unmatched` meets its contract. The invariant: each name before `i` is one of the list (`NoneSoFar`).
+-- The measure: the names left. Assumes nothing.
 use Prim.Native.Nat.{_-_}
 use mathlib.Core.Path.{sym, ap, _∙_}
 use mathlib.Core.Bool.{not}

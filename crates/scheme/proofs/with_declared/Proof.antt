@@ -1,5 +1,5 @@
--- `scheme::with_declared` meets its contract. The invariant: the array has the list with the declared sets before `i` added
--- (`AddingSoFar`). The measure: the declared sets left. Assumes nothing.
+-- `scheme::with_declared` meets its contract. The invariant: the array has the list with the declared sets before `i`
+-- added (`AddingSoFar`). The measure: the declared sets left. Assumes nothing.
 use Prim.Native.Nat.{_-_}
 use mathlib.Core.Path.{sym, _∙_}
 use mathlib.Core.Logic.{⊎-elim}

@@ -7,7 +7,8 @@ use native.Mathlib.Omega.{arith}
 use lib.ListN.{length}
 use borrow.Author.Tests.{not-true, not-false}
 use Rattle.reduction.specs.Packed.{padded}
-use Rattle.scheme.proofs.ListLoops.{RemovingSoFar, removing-start, removing-room, removing-kept, removing-gone, removing-end}
+use Rattle.scheme.proofs.ListLoops.{RemovingSoFar, removing-start, removing-room, removing-kept, removing-gone}
+use Rattle.scheme.proofs.ListLoops.{removing-end}
 use borrow.Author.Needs.{needs}
 use Rattle.scheme.proofs.without_removed.Statement.{statement}
 use Rattle.scheme.proofs.without_removed.Tie as tie

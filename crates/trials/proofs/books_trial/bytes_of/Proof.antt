@@ -1,4 +1,5 @@
--- `trials::books_trial::bytes_of` stays within its slices: what it stored is at most the length. The measure: the bytes left.
+-- `trials::books_trial::bytes_of` stays within its slices: what it stored is at most the length. The measure: the bytes
+-- left.
 -- Assumes nothing.
 use mathlib.Core.Path.{_≡_, _∙_}
 use native.Mathlib.Omega.{arith}

@@ -1,4 +1,5 @@
--- `trials::books_trial::show_line` stays within the line and the array: the parts that it lends are no longer than these.
+-- `trials::books_trial::show_line` stays within the line and the array: the parts that it lends are no longer than
+-- these.
 -- Assumes nothing.
 use mathlib.Core.Path.{sym}
 use native.Mathlib.Omega.{arith}
