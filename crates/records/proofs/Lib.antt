@@ -1,5 +1,7 @@
 pub mod Fields
 pub mod Records
 pub mod Reader
+pub mod Checks
+pub mod Walking
 pub mod Theorems
 pub mod Examples

@@ -1,4 +1,6 @@
 pub mod Fields
 pub mod Records
 pub mod Reader
+pub mod Checks
+pub mod Walking
 pub mod Statements

@@ -1,5 +1,5 @@
 -- What is proved of the layout and of reading, over all records and all bytes (`proofs/Theorems`).
--- In order: fields; the bytes of a record; reading what was written; what was read; the cases of reading.
+-- In order: fields; the bytes of a record; reading what was written; what was read; the cases of reading; walking.
 -- Assumes nothing.
 use mathlib.Core.Path.{_≡_}
 use mathlib.Core.Logic.{_↔_}
@@ -10,6 +10,7 @@ use lib.ListN.{length, getD}
 use Rattle.records.specs.Fields.{AreBytes, bytes, value}
 use Rattle.records.specs.Records.{isKind, bodyLength, kindOf, bytesOf, bytesOfAll, InWidth, AllInWidth}
 use Rattle.records.specs.Reader.{readAt, Means, Stands, Reads}
+use Rattle.records.specs.Walking.{Rules, Stop, walk, StopsAt}
 use Rattle.records.specs.declared.Record.{Record}
 use Rattle.records.specs.declared.Reading.{Reading}
 use Rattle.records.specs.declared.Reading.the-variants.{Found}
@@ -48,3 +49,7 @@ pub record WasWritten : Type 0 where
 -- Every position of every list has one answer, and each answer is given exactly where it means what is there.
 pub record AnswersMean : Type 0 where
   pub exactly : (s : List ℕ) (at : ℕ) (x : Reading) → (readAt s at ≡ x) ↔ Means s at x
+
+-- A walk stops exactly where the paper's words say, in every state of every rules that are sound.
+pub record WalkExactly {S : Type 0} (R : Rules S) (b : List ℕ) (start : S) : Type 0 where
+  pub exactly : (w : Stop S) → (walk R b start ≡ w) ↔ StopsAt R b start w
