@@ -1,7 +1,7 @@
--- A walk stops exactly where the paper's words say. Accepted records lead to the walk from their position on; what stands
--- there is read, and gives one of the ways to stop or one record more.
--- In order: what each reading makes of the rest, the position of accepted records, walking on from them, faulty records,
--- where a walk stops, and that it stops nowhere else.
+-- A walk stops exactly where the paper's words say. Accepted records lead to the walk from their position on; what
+-- stands there is read, and gives one of the ways to stop or one record more.
+-- In order: what each reading makes of the rest, the position of accepted records, walking on from them, faulty
+-- records, where a walk stops, and that it stops nowhere else.
 -- Assumes nothing.
 use mathlib.Core.Path.{_≡_, refl, sym, ap, _∙_, subst}
 use mathlib.Core.Bool.{Bool, true, false}

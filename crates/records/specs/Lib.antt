@@ -3,4 +3,5 @@ pub mod Records
 pub mod Reader
 pub mod Checks
 pub mod Walking
+pub mod Gathered
 pub mod Statements

@@ -1,4 +1,5 @@
--- Walking the records of some bytes, one after another, as a book and a query are read: "Then the earliest faulty record".
+-- Walking the records of some bytes, one after another, as a book and a query are read: "Then the earliest faulty
+-- record".
 -- In order: the rules of a walk, walking computed; then in the paper's words accepted records, a faulty record, where a
 -- walk stops. That walking computes exactly this is a theorem (`Statements`).
 -- Assumes nothing.
@@ -68,8 +69,8 @@ walk R b start = walkFrom R (suc (length b)) b 0 start
 
 -- ---- accepted records
 
--- the records rs were read one after another from the start of b; none was faulty in the state that those before it made,
--- and none was the last. s is the state that they make, at the position behind them
+-- the records rs were read one after another from the start of b; none was faulty in the state that those before it
+-- made, and none was the last. s is the state that they make, at the position behind them
 pub data Accepted {S : Type 0} (R : Rules S) (b : List ℕ) (start : S) : List Record → S → ℕ → Type 0 where
   none : Accepted R b start [] start 0
   one : {rs : List Record} {s : S} {at : ℕ} {r : Record} {next : ℕ} → Accepted R b start rs s at

@@ -1,0 +1,79 @@
+-- Reading a query in the paper's words: records accepted, and where reading stops. That `read` gives exactly this is a
+-- theorem (`Statements`).
+-- In order: names, maximal objects that contain a set, the whole query, where reading stops.
+-- Assumes nothing.
+use mathlib.Core.Path.{_≡_}
+use mathlib.Core.Logic.{_⊎_}
+use mathlib.Core.List.{List, [], _∷_, _++_, List·Memᴰ}
+use Prim.Native.Nat.{ℕ, _≤_, _<_}
+use lib.ListN.{length}
+use Rattle.sets.specs.Sets.{_∈_, _⊆_}
+use Rattle.records.specs.Reader.{readAt}
+use Rattle.records.specs.Walking as Walking
+use Rattle.records.specs.declared.Record.{Record}
+use Rattle.records.specs.declared.Record.the-variants.{Item, CompareTwo, CompareConstant, End}
+use Rattle.records.specs.declared.Reading.the-variants.{Found}
+use Rattle.scheme.specs.declared.Scheme.{Scheme}
+use Rattle.scheme.specs.Growing.{attributesOf}
+use Rattle.query.specs.Asking.{itemsOf, comparisonsOf, attributesNamed}
+use Rattle.query.specs.Faults.{ofQuery, faultOf}
+use Rattle.query.specs.Reading.{queryRules, Outcome, refusedWith}
+
+-- ---- names
+
+-- a record names attribute a with variable v: as an item, or on a side of a comparison
+pub data Names (v a : ℕ) : Record → Type 0 where
+  item : Names v a (Item v a)
+  left : {operator v2 a2 : ℕ} → Names v a (CompareTwo v a operator v2 a2)
+  right : {operator v1 a1 : ℕ} → Names v a (CompareTwo v1 a1 operator v a)
+  ofConstant : {operator cell : ℕ} → Names v a (CompareConstant v a operator cell)
+
+-- one of the records does
+pub record NamedIn (rs : List Record) (v a : ℕ) : Type 0 where
+  pub by : Record
+  pub there : List·Memᴰ by rs
+  pub names : Names v a by
+
+-- ---- maximal objects that contain a set
+
+-- M's objects have all of X among their attributes
+abbrev pub Contains : List ℕ → ℕ → ℕ → Type 0
+Contains sets X M = X ⊆ attributesOf sets M
+
+-- "Some variable's X in no maximal object": the variable is named, and no M contains every attribute named with it
+pub record Unconnected (sets Ms : List ℕ) (rs : List Record) (v : ℕ) : Type 0 where
+  pub named : (a : ℕ) × NamedIn rs v a
+  pub nowhere : (M : ℕ) → List·Memᴰ M Ms → ((a : ℕ) → NamedIn rs v a → a ∈ attributesOf sets M) → ⊥
+
+-- ---- the whole query: the number n that its accepted records get, 0 where nothing is wrong
+
+pub data OfWhole (s : Scheme) (Ms : List ℕ) (rs : List Record) : ℕ → Type 0 where
+  -- "No item: 10."
+  noItem : itemsOf rs ≡ [] → OfWhole s Ms rs 10
+  -- "Some variable's X in no maximal object: 12."
+  notConnected : (itemsOf rs ≡ [] → ⊥) → (v : ℕ) → Unconnected (s .sets) Ms rs v → OfWhole s Ms rs 12
+  good : (itemsOf rs ≡ [] → ⊥) → ((v : ℕ) → Unconnected (s .sets) Ms rs v → ⊥) → OfWhole s Ms rs 0
+
+-- ---- where reading stops
+
+-- the records rs were accepted from the start of b over a book of scheme s, none of them the end; at is the position
+-- behind
+pub record Accepted (s : Scheme) (b : List ℕ) (rs : List Record) (at : ℕ) : Type 0 where
+  pub walked : Walking.Accepted (queryRules s) b [] rs rs at
+
+-- what stands at a position has the fault n behind the records rs
+abbrev pub Faulty : Scheme → List ℕ → List Record → ℕ → ℕ → Type 0
+Faulty s b rs at n = Walking.Faulty ofQuery (faultOf s (length (itemsOf rs)) (length (comparisonsOf rs))) b at n
+
+pub data StopsWith (s : Scheme) (Ms b : List ℕ) : Outcome → Type 0 where
+  -- "the earliest faulty record"
+  faulty : {rs : List Record} {at n : ℕ} → Accepted s b rs at → Faulty s b rs at n
+      → StopsWith s Ms b (refusedWith n rs)
+  -- "Bytes ending without kind 10: 3."
+  unended : {rs : List Record} {at : ℕ} → Accepted s b rs at → length b ≤ at → StopsWith s Ms b (refusedWith 3 rs)
+  -- at kind 10, with something wrong with the whole
+  refused : {rs : List Record} {at next n : ℕ} → Accepted s b rs at → readAt b at ≡ Found End next
+      → OfWhole s Ms rs n → (n ≡ 0 → ⊥) → StopsWith s Ms b (refusedWith n (rs ++ End ∷ []))
+  -- at kind 10, with nothing wrong: the bytes read end behind it
+  answered : {rs : List Record} {at next : ℕ} → Accepted s b rs at → readAt b at ≡ Found End next
+      → OfWhole s Ms rs 0 → StopsWith s Ms b (record { number = 0; records = rs ++ End ∷ []; read = next })

@@ -1,0 +1,182 @@
+-- What the records of a query ask: "Records" and "Answer rows" of the paper.
+-- In order: items, comparisons, names, the attributes of a variable, what the code has of them, what one record adds.
+-- Not here: which records a query may have (`Faults`), reading (`Reading`).
+-- Assumes nothing.
+use mathlib.Core.Bool.{true, false}
+use mathlib.Core.List.{List, [], _∷_, _++_}
+use Prim.Native.Nat.{ℕ, zero, suc, _+_}
+use lib.Dec.{eqb}
+use lib.ListN.{length, getD, set, replicate}
+use Rattle.sets.specs.Sets.{insert}
+use Rattle.records.specs.declared.Record.{Record}
+use Rattle.records.specs.declared.Record.the-variants.{Attribute, Object, Dependency, Row, Declared, Removed, Item}
+use Rattle.records.specs.declared.Record.the-variants.{CompareTwo, CompareConstant, End}
+use Rattle.query.specs.declared.QueryItem.{QueryItem}
+use Rattle.query.specs.declared.Comparison.{Comparison}
+use Rattle.query.specs.declared.Asked.{Asked}
+
+-- ---- items
+
+-- a variable and an attribute
+abbrev pub pair : ℕ → ℕ → QueryItem
+pair v a = record { variable = v; attribute = a }
+
+-- "item to retrieve": what a record retrieves
+unfoldable pub itemOf : Record → List QueryItem
+itemOf (Attribute id kind) = []
+itemOf (Object number set) = []
+itemOf (Dependency left right) = []
+itemOf (Row object c0 c1 c2 c3 c4 c5) = []
+itemOf (Declared set) = []
+itemOf (Removed set) = []
+itemOf (Item v a) = pair v a ∷ []
+itemOf (CompareTwo v a operator v2 a2) = []
+itemOf (CompareConstant v a operator cell) = []
+itemOf End = []
+
+-- the items of records, in their order
+unfoldable pub itemsOf : List Record → List QueryItem
+itemsOf [] = []
+itemsOf (r ∷ rs) = itemOf r ++ itemsOf rs
+
+-- ---- comparisons
+
+abbrev pub ofTwo : ℕ → ℕ → ℕ → ℕ → ℕ → Comparison
+ofTwo v a operator v2 a2 = record {
+  variable = v;
+  attribute = a;
+  operator = operator;
+  constant = false;
+  variable2 = v2;
+  attribute2 = a2;
+  cell = 0;
+}
+
+abbrev pub withCell : ℕ → ℕ → ℕ → ℕ → Comparison
+withCell v a operator cell = record {
+  variable = v;
+  attribute = a;
+  operator = operator;
+  constant = true;
+  variable2 = 0;
+  attribute2 = 0;
+  cell = cell;
+}
+
+-- "comparison of two", "comparison with a constant": what a record compares
+unfoldable pub comparisonOf : Record → List Comparison
+comparisonOf (Attribute id kind) = []
+comparisonOf (Object number set) = []
+comparisonOf (Dependency left right) = []
+comparisonOf (Row object c0 c1 c2 c3 c4 c5) = []
+comparisonOf (Declared set) = []
+comparisonOf (Removed set) = []
+comparisonOf (Item v a) = []
+comparisonOf (CompareTwo v a operator v2 a2) = ofTwo v a operator v2 a2 ∷ []
+comparisonOf (CompareConstant v a operator cell) = withCell v a operator cell ∷ []
+comparisonOf End = []
+
+-- the comparisons of records, of both kinds in one list, in their order
+unfoldable pub comparisonsOf : List Record → List Comparison
+comparisonsOf [] = []
+comparisonsOf (r ∷ rs) = comparisonOf r ++ comparisonsOf rs
+
+-- ---- names
+
+-- the attributes that a record names, each with its variable
+unfoldable pub nameOf : Record → List QueryItem
+nameOf (Attribute id kind) = []
+nameOf (Object number set) = []
+nameOf (Dependency left right) = []
+nameOf (Row object c0 c1 c2 c3 c4 c5) = []
+nameOf (Declared set) = []
+nameOf (Removed set) = []
+nameOf (Item v a) = pair v a ∷ []
+nameOf (CompareTwo v a operator v2 a2) = pair v a ∷ pair v2 a2 ∷ []
+nameOf (CompareConstant v a operator cell) = pair v a ∷ []
+nameOf End = []
+
+unfoldable pub namesOf : List Record → List QueryItem
+namesOf [] = []
+namesOf (r ∷ rs) = nameOf r ++ namesOf rs
+
+-- ---- the attributes of a variable
+
+-- X with the attributes of some names, those of variable v
+unfoldable pub naming : ℕ → ℕ → List QueryItem → ℕ
+naming v X [] = X
+naming v X (n ∷ ns) = naming v (elim (eqb (n .variable) v) [ true ↦ insert X (n .attribute) | false ↦ X ]) ns
+
+-- "For each variable named, X is every attribute named with it."
+unfoldable pub attributesNamed : List Record → ℕ → ℕ
+attributesNamed rs v = naming v 0 (namesOf rs)
+
+-- ---- what the code has of them
+
+-- a list of at most n in an array of n, with d behind it
+unfoldable pub filled : {A : Type 0} → A → ℕ → List A → List A
+filled d zero l = []
+filled d (suc n) [] = d ∷ filled d n []
+filled d (suc n) (x ∷ l) = x ∷ filled d n l
+
+-- "items 1 to 8; comparisons 0 to 16 in all; variables 0 to 3"
+unfoldable pub askedOf : List Record → Asked
+askedOf rs = record {
+  items = filled (pair 0 0) 8 (itemsOf rs);
+  retrieved = length (itemsOf rs);
+  comparisons = filled (ofTwo 0 0 0 0 0) 16 (comparisonsOf rs);
+  compared = length (comparisonsOf rs);
+  attributes =
+      attributesNamed rs 0 ∷ attributesNamed rs 1 ∷ attributesNamed rs 2 ∷ attributesNamed rs 3 ∷ [];
+}
+
+-- ---- what one record adds, as the code adds it
+
+unfoldable pub nothingAsked : Asked
+nothingAsked = record {
+  items = replicate 8 (pair 0 0);
+  retrieved = 0;
+  comparisons = replicate 16 (ofTwo 0 0 0 0 0);
+  compared = 0;
+  attributes = replicate 4 0;
+}
+
+-- an attribute named with a variable
+unfoldable pub withName : Asked → ℕ → ℕ → Asked
+withName q v a = record {
+  items = q .items;
+  retrieved = q .retrieved;
+  comparisons = q .comparisons;
+  compared = q .compared;
+  attributes = set (q .attributes) v (insert (getD (q .attributes) v 0) a);
+}
+
+unfoldable pub withItem : Asked → QueryItem → Asked
+withItem q i = record {
+  items = set (q .items) (q .retrieved) i;
+  retrieved = q .retrieved + 1;
+  comparisons = q .comparisons;
+  compared = q .compared;
+  attributes = q .attributes;
+}
+
+unfoldable pub withComparison : Asked → Comparison → Asked
+withComparison q c = record {
+  items = q .items;
+  retrieved = q .retrieved;
+  comparisons = set (q .comparisons) (q .compared) c;
+  compared = q .compared + 1;
+  attributes = q .attributes;
+}
+
+unfoldable pub withRecord : Asked → Record → Asked
+withRecord q (Attribute id kind) = q
+withRecord q (Object number set) = q
+withRecord q (Dependency left right) = q
+withRecord q (Row object c0 c1 c2 c3 c4 c5) = q
+withRecord q (Declared set) = q
+withRecord q (Removed set) = q
+withRecord q (Item v a) = withName (withItem q (pair v a)) v a
+withRecord q (CompareTwo v a operator v2 a2) = withName (withName (withComparison q (ofTwo v a operator v2 a2)) v a) v2 a2
+withRecord q (CompareConstant v a operator cell) = withName (withComparison q (withCell v a operator cell)) v a
+withRecord q End = q

@@ -1,0 +1,48 @@
+-- The checks of a query's record in the paper's words, as conditions and not as tests. That `faultOf` is the number of
+-- the first that holds is a theorem (`Statements`).
+-- Assumes nothing.
+use mathlib.Core.Path.{_≡_}
+use mathlib.Core.Bool.{false}
+use mathlib.Core.Logic.{_⊎_}
+use mathlib.Core.List.{List, [], _∷_}
+use Prim.Native.Nat.{ℕ, _≤_, _<_}
+use Rattle.sets.specs.Sets.{_∉_}
+use Rattle.values.specs.Values.{inRange}
+use Rattle.values.specs.Operators.{allows}
+use Rattle.records.specs.Checks.{Condition, _gives_}
+use Rattle.records.specs.declared.Record.{Record}
+use Rattle.records.specs.declared.Record.the-variants.{Attribute, Object, Dependency, Row, Declared, Removed, Item}
+use Rattle.records.specs.declared.Record.the-variants.{CompareTwo, CompareConstant, End}
+use Rattle.scheme.specs.declared.Scheme.{Scheme}
+use Rattle.query.specs.Faults.{kindIn}
+
+-- "kind not allowed 2"; "one more than its bound 4": "items 1 to 8; comparisons 0 to 16 in all"; "field outside its
+-- range .. 5": "variables 0 to 3"; "attribute .. not declared 7"; "an operator of 0 to 5 that the table doesn't allow
+-- there 11 (one over 5 is 5; a constant has its attribute's kind); an angle constant over 35,999 is then 5": of value
+-- kinds 0 to 3 only angles have cells out of range
+unfoldable pub conditions : Scheme → ℕ → ℕ → Record → List Condition
+conditions s items comparisons (Attribute id kind) = (Unit {0} gives 2) ∷ []
+conditions s items comparisons (Object number set) = (Unit {0} gives 2) ∷ []
+conditions s items comparisons (Dependency left right) = (Unit {0} gives 2) ∷ []
+conditions s items comparisons (Row object c0 c1 c2 c3 c4 c5) = (Unit {0} gives 2) ∷ []
+conditions s items comparisons (Declared set) = (Unit {0} gives 2) ∷ []
+conditions s items comparisons (Removed set) = (Unit {0} gives 2) ∷ []
+conditions s items comparisons (Item v a) =
+    (8 ≤ items gives 4)
+    ∷ ((3 < v) ⊎ (31 < a) gives 5)
+    ∷ (a ∉ s .attributes gives 7)
+    ∷ []
+conditions s items comparisons (CompareTwo v a operator v2 a2) =
+    (16 ≤ comparisons gives 4)
+    ∷ ((3 < v) ⊎ ((31 < a) ⊎ ((5 < operator) ⊎ ((3 < v2) ⊎ (31 < a2)))) gives 5)
+    ∷ ((a ∉ s .attributes) ⊎ (a2 ∉ s .attributes) gives 7)
+    ∷ (allows operator (kindIn s a) (kindIn s a2) ≡ false gives 11)
+    ∷ []
+conditions s items comparisons (CompareConstant v a operator cell) =
+    (16 ≤ comparisons gives 4)
+    ∷ ((3 < v) ⊎ ((31 < a) ⊎ (5 < operator)) gives 5)
+    ∷ (a ∉ s .attributes gives 7)
+    ∷ (allows operator (kindIn s a) (kindIn s a) ≡ false gives 11)
+    ∷ (inRange (kindIn s a) cell ≡ false gives 5)
+    ∷ []
+conditions s items comparisons End = []

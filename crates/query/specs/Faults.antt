@@ -1,0 +1,59 @@
+-- What is wrong with a record of a query: "Answering a query" of the paper. The checks of each kind stand in the
+-- paper's order, each with the number that it gives; the first that holds is the fault.
+-- In order: kinds of a query, the checks of a record, its fault. Not here: a body that is cut short (`Reading`).
+-- Assumes nothing.
+use mathlib.Core.Bool.{Bool, true, not, _&&_, _||_}
+use mathlib.Core.List.{List, [], _∷_}
+use Prim.Native.Nat.{ℕ}
+use lib.Dec.{ltb, leb}
+use lib.ListN.{getD}
+use Rattle.sets.specs.Sets.{has}
+use Rattle.values.specs.Values.{inRange}
+use Rattle.values.specs.Operators.{allows}
+use Rattle.records.specs.Checks.{firstOf}
+use Rattle.records.specs.declared.Record.{Record}
+use Rattle.records.specs.declared.Record.the-variants.{Attribute, Object, Dependency, Row, Declared, Removed, Item}
+use Rattle.records.specs.declared.Record.the-variants.{CompareTwo, CompareConstant, End}
+use Rattle.scheme.specs.declared.Scheme.{Scheme}
+
+-- "a query 7 to 10"
+unfoldable pub ofQuery : ℕ → Bool
+ofQuery k = leb 7 k && leb k 10
+
+-- the value kind of an attribute
+abbrev pub kindIn : Scheme → ℕ → ℕ
+kindIn s a = getD (s .kinds) a 0
+
+-- the checks of a record, over a book of scheme s, behind so many items and comparisons: "for each record 2, 3, 4, 5, 7
+-- as above; an operator of 0 to 5 that the table doesn't allow there 11 (one over 5 is 5; a constant has its
+-- attribute's kind); an angle constant over 35,999 is then 5"
+unfoldable pub checks : Scheme → ℕ → ℕ → Record → List (Bool × ℕ)
+checks s items comparisons (Attribute id kind) = (true, 2) ∷ []
+checks s items comparisons (Object number set) = (true, 2) ∷ []
+checks s items comparisons (Dependency left right) = (true, 2) ∷ []
+checks s items comparisons (Row object c0 c1 c2 c3 c4 c5) = (true, 2) ∷ []
+checks s items comparisons (Declared set) = (true, 2) ∷ []
+checks s items comparisons (Removed set) = (true, 2) ∷ []
+checks s items comparisons (Item v a) =
+    (leb 8 items, 4)
+    ∷ (ltb 3 v || ltb 31 a, 5)
+    ∷ (not (has (s .attributes) a), 7)
+    ∷ []
+checks s items comparisons (CompareTwo v a operator v2 a2) =
+    (leb 16 comparisons, 4)
+    ∷ (ltb 3 v || (ltb 31 a || (ltb 5 operator || (ltb 3 v2 || ltb 31 a2))), 5)
+    ∷ (not (has (s .attributes) a) || not (has (s .attributes) a2), 7)
+    ∷ (not (allows operator (kindIn s a) (kindIn s a2)), 11)
+    ∷ []
+checks s items comparisons (CompareConstant v a operator cell) =
+    (leb 16 comparisons, 4)
+    ∷ (ltb 3 v || (ltb 31 a || ltb 5 operator), 5)
+    ∷ (not (has (s .attributes) a), 7)
+    ∷ (not (allows operator (kindIn s a) (kindIn s a)), 11)
+    ∷ (not (inRange (kindIn s a) cell), 5)
+    ∷ []
+checks s items comparisons End = []
+
+-- its fault, 0 where it has none
+unfoldable pub faultOf : Scheme → ℕ → ℕ → Record → ℕ
+faultOf s items comparisons r = firstOf (checks s items comparisons r)
