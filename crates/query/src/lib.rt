@@ -430,7 +430,8 @@ fn whole_fault(s: Scheme, maximal: &[ObjectSet], q: Asked) -> u8
     if q.retrieved == 0 {
         return 10;
     }
-    if some_unconnected(&s.sets, maximal, q.attributes) {
+    let attributes = q.attributes;
+    if some_unconnected(&s.sets, maximal, attributes) {
         return 12;
     }
     0

@@ -1,0 +1,323 @@
+-- What one record more adds to what records ask, as the definitions have it and as the code adds it.
+-- In order: what a record without a fault has, lists of records with one more, arrays with one more, names with one
+-- more, what the code has with one record more, records by their variant.
+-- Assumes nothing.
+use mathlib.Core.Path.{_≡_, refl, sym, ap, _∙_}
+use mathlib.Core.Bool.{Bool, true, false, not, _||_}
+use mathlib.Core.List.{List, [], _∷_, _++_, append-nil, append-assoc}
+use Prim.Native.Nat.{ℕ, zero, suc, _+_, _≤_, _<_}
+use native.Mathlib.Nat.{le-of-suc-le-suc, not-suc-le-zero}
+use native.Mathlib.Omega.{arith}
+use borrow.Author.Tests.{ltb-false, leb-false}
+use lib.Dec.{eqb, ltb, leb}
+use lib.ListN.{length, getD, set, length-append}
+use types.Run.{OneOf, miss}
+use denote.Enum.Declared.{tagOf}
+use Rattle.sets.specs.Sets.{insert}
+use Rattle.sets.proofs.Tests.{no-or}
+use Rattle.records.proofs.Record.{the-type}
+use Rattle.records.proofs.Checks.{none-first}
+use Rattle.records.specs.declared.Record.{Record}
+use Rattle.records.specs.declared.Record.the-variants.{Attribute, Object, Dependency, Row, Declared, Removed, Item}
+use Rattle.records.specs.declared.Record.the-variants.{CompareTwo, CompareConstant, End}
+use Rattle.scheme.specs.declared.Scheme.{Scheme}
+use Rattle.query.specs.declared.Asked.{Asked}
+use Rattle.query.specs.declared.QueryItem.{QueryItem}
+use Rattle.query.specs.declared.Comparison.{Comparison}
+use Rattle.query.specs.Asking.{pair, itemOf, itemsOf, ofTwo, withCell, comparisonOf, comparisonsOf, nameOf}
+use Rattle.query.specs.Asking.{namesOf}
+use Rattle.query.specs.Asking.{naming, attributesNamed, filled, askedOf, nothingAsked, withName, withItem}
+use Rattle.query.specs.Asking.{withComparison, withRecord}
+use Rattle.query.specs.Faults.{checks, faultOf}
+use Rattle.query.specs.Reading.{isEnd}
+
+-- ---- what a record without a fault has
+
+-- the code has the record by its variant
+pub same-fault : (s : Scheme) (items comparisons : ℕ) {r q : Record} → r ≡ q → faultOf s items comparisons r ≡ 0
+    → faultOf s items comparisons q ≡ 0
+same-fault s items comparisons e f = ap (faultOf s items comparisons) (sym e) ∙ f
+
+-- room for one more, and a name within range
+pub record NewName (before bound v a : ℕ) : Type 0 where
+  pub room : before < bound
+  pub variable : v < 4
+  pub attribute : a < 32
+
+module _ (s : Scheme) (items comparisons : ℕ) where
+  pub item-accepted : (v a : ℕ) → faultOf s items comparisons (Item v a) ≡ 0 → NewName items 8 v a
+  unfolding faultOf checks
+  item-accepted v a e =
+      let room = none-first (leb 8 items) 4 _ (λ z. omega arith) e in
+      let range = none-first (ltb 3 v || ltb 31 a) 5 _ (λ z. omega arith) (room .1) in
+      let small = no-or (ltb 3 v) (ltb 31 a) (range .0) in
+      record {
+        room = leb-false 8 items (room .0);
+        variable = omega (arith, ltb-false 3 v (small .0));
+        attribute = omega (arith, ltb-false 31 a (small .1));
+      }
+
+  pub two-accepted : (v a operator v2 a2 : ℕ) → faultOf s items comparisons (CompareTwo v a operator v2 a2) ≡ 0
+      → NewName comparisons 16 v a × NewName comparisons 16 v2 a2
+  unfolding faultOf checks
+  two-accepted v a operator v2 a2 e =
+      let room = none-first (leb 16 comparisons) 4 _ (λ z. omega arith) e in
+      let range = none-first (ltb 3 v || (ltb 31 a || (ltb 5 operator || (ltb 3 v2 || ltb 31 a2)))) 5 _ (λ z. omega
+      arith) (room .1) in
+      let first = no-or (ltb 3 v) (ltb 31 a || (ltb 5 operator || (ltb 3 v2 || ltb 31 a2))) (range .0) in
+      let second = no-or (ltb 31 a) (ltb 5 operator || (ltb 3 v2 || ltb 31 a2)) (first .1) in
+      let third = no-or (ltb 5 operator) (ltb 3 v2 || ltb 31 a2) (second .1) in
+      let fourth = no-or (ltb 3 v2) (ltb 31 a2) (third .1) in (
+        record {
+          room = leb-false 16 comparisons (room .0);
+          variable = omega (arith, ltb-false 3 v (first .0));
+          attribute = omega (arith, ltb-false 31 a (second .0));
+        },
+        record {
+          room = leb-false 16 comparisons (room .0);
+          variable = omega (arith, ltb-false 3 v2 (fourth .0));
+          attribute = omega (arith, ltb-false 31 a2 (fourth .1));
+        },
+      )
+
+  pub constant-accepted : (v a operator cell : ℕ) → faultOf s items comparisons (CompareConstant v a operator cell) ≡ 0
+      → NewName comparisons 16 v a
+  unfolding faultOf checks
+  constant-accepted v a operator cell e =
+      let room = none-first (leb 16 comparisons) 4 _ (λ z. omega arith) e in
+      let range = none-first (ltb 3 v || (ltb 31 a || ltb 5 operator)) 5 _ (λ z. omega arith) (room .1) in
+      let first = no-or (ltb 3 v) (ltb 31 a || ltb 5 operator) (range .0) in
+      let second = no-or (ltb 31 a) (ltb 5 operator) (first .1) in
+      record {
+        room = leb-false 16 comparisons (room .0);
+        variable = omega (arith, ltb-false 3 v (first .0));
+        attribute = omega (arith, ltb-false 31 a (second .0));
+      }
+
+-- ---- lists of records with one more
+
+pub items-more : (rs : List Record) (r : Record) → itemsOf (rs ++ r ∷ []) ≡ itemsOf rs ++ itemOf r
+unfolding itemsOf
+items-more [] r = append-nil (itemOf r)
+items-more (q ∷ rs) r =
+    ap (λ (l : List QueryItem). itemOf q ++ l) (items-more rs r) ∙ sym (append-assoc (itemOf q) (itemsOf rs) (itemOf r))
+
+pub comparisons-more : (rs : List Record) (r : Record) → comparisonsOf (rs ++ r ∷ []) ≡ comparisonsOf rs ++ comparisonOf r
+unfolding comparisonsOf
+comparisons-more [] r = append-nil (comparisonOf r)
+comparisons-more (q ∷ rs) r =
+    ap (λ (l : List Comparison). comparisonOf q ++ l) (comparisons-more rs r)
+    ∙ sym (append-assoc (comparisonOf q) (comparisonsOf rs) (comparisonOf r))
+
+pub names-more : (rs : List Record) (r : Record) → namesOf (rs ++ r ∷ []) ≡ namesOf rs ++ nameOf r
+unfolding namesOf
+names-more [] r = append-nil (nameOf r)
+names-more (q ∷ rs) r =
+    ap (λ (l : List QueryItem). nameOf q ++ l) (names-more rs r) ∙ sym (append-assoc (nameOf q) (namesOf rs) (nameOf r))
+
+pub naming-append : (v X : ℕ) (ns ms : List QueryItem) → naming v X (ns ++ ms) ≡ naming v (naming v X ns) ms
+unfolding naming
+naming-append v X [] ms = refl
+naming-append v X (n ∷ ns) ms =
+    naming-append v (elim (eqb (n .variable) v) [ true ↦ insert X (n .attribute) | false ↦ X ]) ns ms
+
+pub attributes-more : (rs : List Record) (r : Record) (v : ℕ)
+    → attributesNamed (rs ++ r ∷ []) v ≡ naming v (attributesNamed rs v) (nameOf r)
+unfolding attributesNamed
+attributes-more rs r v = ap (naming v 0) (names-more rs r) ∙ naming-append v 0 (namesOf rs) (nameOf r)
+
+-- ---- arrays with one more
+
+filled-more : {A : Type 0} (d : A) (n : ℕ) (l : List A) (x : A) → length l < n
+    → set (filled d n l) (length l) x ≡ filled d n (l ++ x ∷ [])
+unfolding filled
+filled-more d zero l x h = absurd (not-suc-le-zero h)
+filled-more d (suc n) [] x h = refl
+filled-more {A} d (suc n) (y ∷ l) x h = ap (λ (t : List A). y ∷ t) (filled-more d n l x (le-of-suc-le-suc h))
+
+-- ---- names with one more
+
+-- the sets of four variables, one of which has an attribute more
+four-named : (v a x0 x1 x2 x3 : ℕ) → v < 4
+    → set (x0 ∷ x1 ∷ x2 ∷ x3 ∷ []) v (insert (getD (x0 ∷ x1 ∷ x2 ∷ x3 ∷ []) v 0) a)
+    ≡ naming 0 x0 (pair v a ∷ []) ∷ naming 1 x1 (pair v a ∷ []) ∷ naming 2 x2 (pair v a ∷ [])
+    ∷ naming 3 x3 (pair v a ∷ []) ∷ []
+unfolding naming
+four-named zero a x0 x1 x2 x3 h = refl
+four-named (suc zero) a x0 x1 x2 x3 h = refl
+four-named (suc (suc zero)) a x0 x1 x2 x3 h = refl
+four-named (suc (suc (suc zero))) a x0 x1 x2 x3 h = refl
+four-named (suc (suc (suc (suc v)))) a x0 x1 x2 x3 h = absurd (omega arith)
+
+-- ---- what the code has with one record more
+
+pub asked-nothing : nothingAsked ≡ askedOf []
+unfolding nothingAsked askedOf itemsOf comparisonsOf attributesNamed namesOf naming filled
+asked-nothing = refl
+
+-- the sets of the four variables
+abbrev four : List Record → List ℕ
+four rs = attributesNamed rs 0 ∷ attributesNamed rs 1 ∷ attributesNamed rs 2 ∷ attributesNamed rs 3 ∷ []
+
+four-more : (rs : List Record) (r : Record)
+    → four (rs ++ r ∷ []) ≡ naming 0 (attributesNamed rs 0) (nameOf r) ∷ naming 1 (attributesNamed rs 1) (nameOf r)
+    ∷ naming 2 (attributesNamed rs 2) (nameOf r) ∷ naming 3 (attributesNamed rs 3) (nameOf r) ∷ []
+four-more rs r =
+    cc (attributes-more rs r 0, attributes-more rs r 1, attributes-more rs r 2, attributes-more rs r 3)
+
+-- a record that asks nothing
+asks-nothing : (rs : List Record) (r : Record) → itemOf r ≡ [] → comparisonOf r ≡ [] → nameOf r ≡ []
+    → askedOf rs ≡ askedOf (rs ++ r ∷ [])
+unfolding askedOf naming
+asks-nothing rs r i c n =
+    let e1 : itemsOf (rs ++ r ∷ []) ≡ itemsOf rs =
+    items-more rs r ∙ ap (λ (l : List QueryItem). itemsOf rs ++ l) i ∙ append-nil (itemsOf rs) in
+    let e2 : comparisonsOf (rs ++ r ∷ []) ≡ comparisonsOf rs =
+    comparisons-more rs r ∙ ap (λ (l : List Comparison). comparisonsOf rs ++ l) c ∙ append-nil (comparisonsOf rs) in
+    let same : (v : ℕ) → attributesNamed (rs ++ r ∷ []) v ≡ attributesNamed rs v =
+    λ v. attributes-more rs r v ∙ ap (naming v (attributesNamed rs v)) n in
+    cc (same 0, same 1, same 2, same 3)
+
+module _ (rs : List Record) (v a : ℕ) (h : v < 4) where
+  asked-item : length (itemsOf rs) < 8
+      → withName (withItem (askedOf rs) (pair v a)) v a ≡ askedOf (rs ++ Item v a ∷ [])
+  unfolding askedOf withName withItem itemOf comparisonOf nameOf
+  asked-item room =
+      let r = Item v a in
+      let e1 : set (filled (pair 0 0) 8 (itemsOf rs)) (length (itemsOf rs)) (pair v a) ≡ filled (pair 0 0) 8 (itemsOf (rs
+      ++ r ∷ [])) =
+      filled-more (pair 0 0) 8 (itemsOf rs) (pair v a) room ∙ ap (filled (pair 0 0) 8) (sym (items-more rs r)) in
+      let e2 : length (itemsOf rs) + 1 ≡ length (itemsOf (rs ++ r ∷ [])) =
+      omega (arith, ap length (items-more rs r), length-append (itemsOf rs) (pair v a ∷ [])) in
+      let e3 : comparisonsOf (rs ++ r ∷ []) ≡ comparisonsOf rs =
+      comparisons-more rs r ∙ append-nil (comparisonsOf rs) in
+      let e4 = four-named v a (attributesNamed rs 0) (attributesNamed rs 1) (attributesNamed rs 2) (attributesNamed rs 3)
+      h ∙ sym (four-more rs r) in
+      cc
+
+module _ (rs : List Record) (operator : ℕ) (room : length (comparisonsOf rs) < 16) where
+  -- a comparison more, in its array and counted
+  compared-more : (r : Record) (c : Comparison) → comparisonOf r ≡ c ∷ []
+      → (set (filled (ofTwo 0 0 0 0 0) 16 (comparisonsOf rs)) (length (comparisonsOf rs)) c
+      ≡ filled (ofTwo 0 0 0 0 0) 16 (comparisonsOf (rs ++ r ∷ [])))
+      × (length (comparisonsOf rs) + 1 ≡ length (comparisonsOf (rs ++ r ∷ [])))
+  compared-more r c e =
+      let more : comparisonsOf (rs ++ r ∷ []) ≡ comparisonsOf rs ++ c ∷ [] =
+      comparisons-more rs r ∙ ap (λ (l : List Comparison). comparisonsOf rs ++ l) e in (
+        filled-more (ofTwo 0 0 0 0 0) 16 (comparisonsOf rs) c room ∙ ap (filled (ofTwo 0 0 0 0 0) 16) (sym more),
+        omega (arith, ap length more, length-append (comparisonsOf rs) (c ∷ [])),
+      )
+
+  asked-constant : (v a cell : ℕ) → v < 4
+      → withName (withComparison (askedOf rs) (withCell v a operator cell)) v a
+      ≡ askedOf (rs ++ CompareConstant v a operator cell ∷ [])
+  unfolding askedOf withName withComparison itemOf comparisonOf nameOf
+  asked-constant v a cell h =
+      let r = CompareConstant v a operator cell in
+      let e1 = compared-more r (withCell v a operator cell) refl in
+      let e2 : itemsOf (rs ++ r ∷ []) ≡ itemsOf rs = items-more rs r ∙ append-nil (itemsOf rs) in
+      let e3 = four-named v a (attributesNamed rs 0) (attributesNamed rs 1) (attributesNamed rs 2) (attributesNamed rs 3)
+      h ∙ sym (four-more rs r) in
+      cc (e1 .0, e1 .1)
+
+  asked-two : (v a v2 a2 : ℕ) → v < 4 → v2 < 4
+      → withName (withName (withComparison (askedOf rs) (ofTwo v a operator v2 a2)) v a) v2 a2
+      ≡ askedOf (rs ++ CompareTwo v a operator v2 a2 ∷ [])
+  unfolding askedOf withName withComparison itemOf comparisonOf nameOf naming
+  asked-two v a v2 a2 h h2 =
+      let r = CompareTwo v a operator v2 a2 in
+      let e1 = compared-more r (ofTwo v a operator v2 a2) refl in
+      let e2 : itemsOf (rs ++ r ∷ []) ≡ itemsOf rs = items-more rs r ∙ append-nil (itemsOf rs) in
+      let once = four-named v a (attributesNamed rs 0) (attributesNamed rs 1) (attributesNamed rs 2)
+      (attributesNamed rs 3) h in
+      let twice = ap (λ (l : List ℕ). set l v2 (insert (getD l v2 0) a2)) once ∙ four-named v2 a2 _ _ _ _ h2
+      ∙ sym (four-more rs r) in
+      cc (e1 .0, e1 .1, twice)
+
+pub asked-record : (s : Scheme) (rs : List Record) (r : Record)
+    → faultOf s (length (itemsOf rs)) (length (comparisonsOf rs)) r ≡ 0
+    → withRecord (askedOf rs) r ≡ askedOf (rs ++ r ∷ [])
+unfolding withRecord itemOf comparisonOf nameOf
+asked-record s rs (Attribute id kind) f = asks-nothing rs (Attribute id kind) refl refl refl
+asked-record s rs (Object number set) f = asks-nothing rs (Object number set) refl refl refl
+asked-record s rs (Dependency left right) f = asks-nothing rs (Dependency left right) refl refl refl
+asked-record s rs (Row object c0 c1 c2 c3 c4 c5) f =
+    asks-nothing rs (Row object c0 c1 c2 c3 c4 c5) refl refl refl
+asked-record s rs (Declared set) f = asks-nothing rs (Declared set) refl refl refl
+asked-record s rs (Removed set) f = asks-nothing rs (Removed set) refl refl refl
+asked-record s rs (Item v a) f =
+    let n = item-accepted s (length (itemsOf rs)) (length (comparisonsOf rs)) v a f in
+    asked-item rs v a (n .variable) (n .room)
+asked-record s rs (CompareTwo v a operator v2 a2) f =
+    let n = two-accepted s (length (itemsOf rs)) (length (comparisonsOf rs)) v a operator v2 a2 f in
+    asked-two rs operator (n .0 .room) v a v2 a2 (n .0 .variable) (n .1 .variable)
+asked-record s rs (CompareConstant v a operator cell) f =
+    let n = constant-accepted s (length (itemsOf rs)) (length (comparisonsOf rs)) v a operator cell f in
+    asked-constant rs operator (n .room) v a cell (n .variable)
+asked-record s rs End f = asks-nothing rs End refl refl refl
+
+pub asked-end : (rs : List Record) → askedOf rs ≡ askedOf (rs ++ End ∷ [])
+unfolding itemOf comparisonOf nameOf
+asked-end rs = asks-nothing rs End refl refl refl
+
+-- ---- records by their variant
+
+pub of-variant : (s : Scheme) (items comparisons : ℕ) {n : ℕ} {r q : Record} → n ≡ faultOf s items comparisons q → r ≡ q
+    → n ≡ faultOf s items comparisons r
+of-variant s items comparisons e p = e ∙ ap (faultOf s items comparisons) (sym p)
+
+pub with-variant : (q : Asked) {d : Asked} {r p : Record} → d ≡ withRecord q p → r ≡ p → d ≡ withRecord q r
+with-variant q e p = e ∙ ap (withRecord q) (sym p)
+
+pub adds-nothing : (q : Asked) (r : Record) → OneOf (0 ∷ 1 ∷ 2 ∷ 3 ∷ 4 ∷ 5 ∷ 9 ∷ []) (tagOf the-type r)
+    → q ≡ withRecord q r
+unfolding withRecord
+adds-nothing q (Attribute id kind) h = refl
+adds-nothing q (Object number set) h = refl
+adds-nothing q (Dependency left right) h = refl
+adds-nothing q (Row object c0 c1 c2 c3 c4 c5) h = refl
+adds-nothing q (Declared set) h = refl
+adds-nothing q (Removed set) h = refl
+adds-nothing q (Item v a) h = absurd (miss (0 ∷ 1 ∷ 2 ∷ 3 ∷ 4 ∷ 5 ∷ 9 ∷ []) 6 tt h)
+adds-nothing q (CompareTwo v a operator v2 a2) h = absurd (miss (0 ∷ 1 ∷ 2 ∷ 3 ∷ 4 ∷ 5 ∷ 9 ∷ []) 7 tt h)
+adds-nothing q (CompareConstant v a operator cell) h = absurd (miss (0 ∷ 1 ∷ 2 ∷ 3 ∷ 4 ∷ 5 ∷ 9 ∷ []) 8 tt h)
+adds-nothing q End h = refl
+
+pub not-the-end : (r : Record) → OneOf (0 ∷ 1 ∷ 2 ∷ 3 ∷ 4 ∷ 5 ∷ 6 ∷ 7 ∷ 8 ∷ []) (tagOf the-type r) → false ≡ isEnd r
+unfolding isEnd
+not-the-end (Attribute id kind) h = refl
+not-the-end (Object number set) h = refl
+not-the-end (Dependency left right) h = refl
+not-the-end (Row object c0 c1 c2 c3 c4 c5) h = refl
+not-the-end (Declared set) h = refl
+not-the-end (Removed set) h = refl
+not-the-end (Item v a) h = refl
+not-the-end (CompareTwo v a operator v2 a2) h = refl
+not-the-end (CompareConstant v a operator cell) h = refl
+not-the-end End h = absurd (miss (0 ∷ 1 ∷ 2 ∷ 3 ∷ 4 ∷ 5 ∷ 6 ∷ 7 ∷ 8 ∷ []) 9 tt h)
+
+-- what the code needs of a record without a fault
+module _ (s : Scheme) (items comparisons : ℕ) {r : Record} (f : faultOf s items comparisons r ≡ 0) where
+  pub item-room : (v a : ℕ) → r ≡ Item v a → items < 8
+  item-room v a e = item-accepted s items comparisons v a (same-fault s items comparisons e f) .room
+
+  pub item-named : (v a : ℕ) → r ≡ Item v a → (v < 4) × (a < 32)
+  item-named v a e =
+      let n = item-accepted s items comparisons v a (same-fault s items comparisons e f) in (n .variable, n .attribute)
+
+  pub two-fits : (v a operator v2 a2 : ℕ) → r ≡ CompareTwo v a operator v2 a2
+      → (comparisons < 16) × ((v < 4) × (a < 32)) × ((v2 < 4) × (a2 < 32))
+  two-fits v a operator v2 a2 e =
+      let n = two-accepted s items comparisons v a operator v2 a2 (same-fault s items comparisons e f) in
+      (n .0 .room, (n .0 .variable, n .0 .attribute), (n .1 .variable, n .1 .attribute))
+
+  pub constant-fits : (v a operator cell : ℕ) → r ≡ CompareConstant v a operator cell
+      → (comparisons < 16) × (v < 4) × (a < 32)
+  constant-fits v a operator cell e =
+      let n = constant-accepted s items comparisons v a operator cell (same-fault s items comparisons e f) in
+      (n .room, n .variable, n .attribute)
+
+pub with-item-record : (q : Asked) {d q′ : Asked} {r : Record} (v a : ℕ) → q′ ≡ withItem q (pair v a)
+    → d ≡ withName q′ v a → r ≡ Item v a → d ≡ withRecord q r
+unfolding withRecord
+with-item-record q v a e d p = with-variant q (d ∙ ap (λ (x : Asked). withName x v a) e) p
