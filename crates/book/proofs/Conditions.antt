@@ -1,103 +1,37 @@
 -- The tests of the checks say what the conditions say, kind by kind; so the fault of a record is the number of the
 -- first condition that holds.
--- In order: tests and conditions, those of numbers and sets, those of a row's cells, each kind, the first, its range.
+-- In order: a row's cells, each kind, the first, its range. Those of numbers and sets are in `records`.
 -- Assumes nothing.
 use mathlib.Core.Path.{_≡_, refl, sym, ap, _∙_, subst}
-use mathlib.Core.Bool.{Bool, true, false, not, _&&_, _||_}
+use mathlib.Core.Bool.{true, false, not, _&&_}
 use mathlib.Core.Logic.{_⊎_, inl, inr, ⊎-elim}
 use mathlib.Core.List.{List, [], _∷_}
 use Prim.Native.Nat.{ℕ, zero, suc, _+_, _-_, _≤_, _<_}
 use native.Mathlib.Nat.{le-refl, le-of-suc-le-suc, eq-or-lt-of-le}
 use native.Mathlib.Omega.{arith}
-use borrow.Author.Tests.{ltb-true, ltb-false, leb-true, leb-false, eqb-true, eqb-false, not-true, not-false}
-use lib.Dec.{eqb, ltb, leb}
+use borrow.Author.Tests.{eqb-true, eqb-false, not-true, not-false}
+use lib.Dec.{eqb}
 use lib.ListN.{getD, drop}
 use lib.Seq.{getD-drop}
-use Rattle.sets.specs.Sets.{_∈_, _∉_, _⊆_, has, within, isEmpty, count}
+use Rattle.sets.specs.Sets.{_∈_, _∉_, has, count}
 use Rattle.sets.proofs.Tests.{yes-no, yes-and, no-and, yes-or, no-or}
 use Rattle.sets.proofs.Bits.{in-out}
-use Rattle.sets.proofs.Sets.{yes-has, no-has, yes-within, no-within, yes-isEmpty, isEmpty-yes}
+use Rattle.sets.proofs.Sets.{yes-has, no-has}
 use Rattle.values.specs.Values.{inRange}
+use Rattle.records.specs.Checks.{Condition, First}
 use Rattle.records.specs.declared.Record.{Record}
 use Rattle.records.specs.declared.Record.the-variants.{Attribute, Object, Dependency, Row, Declared, Removed, Item}
 use Rattle.records.specs.declared.Record.the-variants.{CompareTwo, CompareConstant, End}
+use Rattle.records.proofs.Checks.{Same, Agree, ended, next, first-agrees, first-unique, same-always, same-or}
+use Rattle.records.proofs.Checks.{same-or-three, same-lt, same-le, same-empty, same-has, same-absent, same-not-within}
 use Rattle.relation.specs.Tables.{cellOf}
 use Rattle.scheme.specs.declared.Scheme.{Scheme}
-use Rattle.book.specs.Faults.{firstOf, someNonZero, someOutside, wrongCells, rowChecks, maximalChecks, checks}
+use Rattle.book.specs.Faults.{someNonZero, someOutside, wrongCells, rowChecks, maximalChecks, checks}
 use Rattle.book.specs.Faults.{faultOf}
-use Rattle.book.specs.Conditions.{Condition, _gives_, First, NonZeroUnneeded, OutsideItsKind, rowConditions}
+use Rattle.book.specs.Conditions.{NonZeroUnneeded, OutsideItsKind, rowConditions}
 use Rattle.book.specs.Conditions.{maximalConditions, conditions}
 
--- ---- tests and conditions
-
--- a test passes exactly if the condition holds
-record Same (test : Bool) (P : Type 0) : Type 0 where
-  yes : test ≡ true → P
-  no : test ≡ false → P → ⊥
-
-data Agree : List (Bool × ℕ) → List Condition → Type 1 where
-  ended : Agree [] []
-  next : {t : Bool} {P : Type 0} {n : ℕ} {ts : List (Bool × ℕ)} {cs : List Condition} → Same t P → Agree ts cs
-      → Agree ((t, n) ∷ ts) ((P gives n) ∷ cs)
-
-first-agrees : {ts : List (Bool × ℕ)} {cs : List Condition} → Agree ts cs → First cs (firstOf ts)
-unfolding First firstOf
-first-agrees ended = refl
-first-agrees (next {t = true} s a) = inl (s .yes refl, refl)
-first-agrees (next {t = false} s a) = inr (s .no refl, first-agrees a)
-
-first-unique : (cs : List Condition) {n m : ℕ} → First cs n → First cs m → n ≡ m
-unfolding First
-first-unique [] p q = p ∙ sym q
-first-unique (c ∷ cs) (inl p) (inl q) = p .1 ∙ sym (q .1)
-first-unique (c ∷ cs) (inl p) (inr q) = absurd (q .0 (p .0))
-first-unique (c ∷ cs) (inr p) (inl q) = absurd (p .0 (q .0))
-first-unique (c ∷ cs) (inr p) (inr q) = first-unique cs (p .1) (q .1)
-
-same-or : {a b : Bool} {P Q : Type 0} → Same a P → Same b Q → Same (a || b) (P ⊎ Q)
-same-or {a} {b} s t = record {
-  yes = λ e. ⊎-elim (λ y. inl (s .yes y)) (λ y. inr (t .yes y)) (yes-or a b e);
-  no = λ e. ⊎-elim (s .no (no-or a b e .0)) (t .no (no-or a b e .1));
-}
-
--- of three, as `||` and `⊎` group them
-same-or-three : {a b c : Bool} {P Q R : Type 0} → Same a P → Same b Q → Same c R → Same (a || b || c) (P ⊎ Q ⊎ R)
-same-or-three s t u = record {
-  yes = λ e. ⊎-elim (λ p. ⊎-elim (λ y. inl y) (λ y. inr (inl y)) p) (λ y. inr (inr y)) (same-or (same-or s t) u .yes e);
-  no = λ e. ⊎-elim (λ p. same-or (same-or s t) u .no e (inl (inl p)))
-      (λ p. ⊎-elim (λ q. same-or (same-or s t) u .no e (inl (inr q))) (λ r. same-or (same-or s t) u .no e (inr r)) p);
-}
-
--- ---- those of numbers and sets
-
-same-always : Same true (Unit {0})
-same-always = record { yes = λ e. tt; no = λ e u. yes-no refl e }
-
-same-lt : (a b : ℕ) → Same (ltb a b) (a < b)
-same-lt a b = record { yes = ltb-true a b; no = λ e h. absurd (omega (arith, ltb-false a b e)) }
-
-same-le : (a b : ℕ) → Same (leb a b) (a ≤ b)
-same-le a b = record { yes = leb-true a b; no = λ e h. absurd (omega (arith, leb-false a b e)) }
-
-same-empty : (s : ℕ) → Same (isEmpty s) (s ≡ 0)
-same-empty s = record { yes = yes-isEmpty s; no = λ e z. yes-no (isEmpty-yes z) e }
-
-same-has : (s k : ℕ) → Same (has s k) (k ∈ s)
-same-has s k = record { yes = yes-has s k; no = λ e i. in-out i (no-has s k e) }
-
-same-absent : (s k : ℕ) → Same (not (has s k)) (k ∉ s)
-same-absent s k = record {
-  yes = λ e. no-has s k (not-true (has s k) e);
-  no = λ e o. in-out (yes-has s k (not-false (has s k) e)) o;
-}
-
-same-not-within : (s t : ℕ) → Same (not (within s t)) (s ⊆ t → ⊥)
-same-not-within s t = record {
-  yes = λ e. no-within (not-true (within s t) e);
-  no = λ e n. n (yes-within s t (not-false (within s t) e));
-}
-
--- ---- those of a row's cells
+-- ---- a row's cells
 
 -- a cell of the list that is not zero
 nonzero-yes : (cells : List ℕ) → someNonZero cells ≡ true → (i : ℕ) × (getD cells i 0 ≡ 0 → ⊥)

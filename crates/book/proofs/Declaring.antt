@@ -11,6 +11,8 @@ use lib.Dec.{ltb, leb}
 use lib.ListN.{getD}
 use types.Run.{OneOf, miss}
 use denote.Enum.Declared.{tagOf}
+use Rattle.records.specs.Checks.{firstOf}
+use Rattle.records.specs.Walking.{shortNumber}
 use Rattle.records.proofs.Record.{the-type}
 use Rattle.records.proofs.Reading as ReadingType
 use Rattle.records.specs.declared.Reading.{Reading}
@@ -18,16 +20,16 @@ use Rattle.records.specs.declared.Reading.the-variants.{Nothing, Unknown, Short
 use Rattle.records.specs.declared.Record.{Record}
 use Rattle.records.specs.declared.Record.the-variants.{Attribute, Object, Dependency, Row, Declared, Removed, Item}
 use Rattle.records.specs.declared.Record.the-variants.{CompareTwo, CompareConstant, End}
+use Rattle.records.proofs.Checks.{none-first}
 use Rattle.scheme.specs.declared.Scheme.{Scheme}
 use Rattle.scheme.specs.Statements.{SomeObjects}
 use Rattle.sets.specs.Sets.{_∈_, _∉_, has, within, isEmpty, count}
 use Rattle.sets.proofs.Tests.{and-yes, no-or}
 use Rattle.sets.proofs.Sets.{yes-has, no-has, yes-within, no-isEmpty}
-use Rattle.book.specs.Faults.{ofBook, firstOf, wrongCells, rowChecks, maximalChecks, checks, faultOf}
+use Rattle.book.specs.Faults.{ofBook, wrongCells, rowChecks, maximalChecks, checks, faultOf}
 use Rattle.book.specs.Declaring.{declare}
-use Rattle.book.specs.Reading.{isRow, shortFault, stopNumber}
+use Rattle.book.specs.Reading.{isRow, stopNumber}
 use Rattle.book.specs.WellFormed.{SomeAttributes}
-use Rattle.book.proofs.Faults.{none-first}
 
 -- ---- what a fault of 0 says of a record, by its kind
 
@@ -188,16 +190,16 @@ not-of-a-book s End h = refl
 
 -- ---- bodies cut short
 
-pub short-yes : (k : ℕ) → 1 ≤ k → k ≤ 6 → 3 ≡ shortFault k
-unfolding shortFault ofBook
+pub short-yes : (k : ℕ) → 1 ≤ k → k ≤ 6 → 3 ≡ shortNumber ofBook k
+unfolding shortNumber ofBook
 short-yes k h l = ap (λ (b : Bool). elim b [ true ↦ 3 | false ↦ 2 ]) (sym (and-yes (le-leb 1 k h) (le-leb k 6 l)))
 
-pub short-low : (k : ℕ) → k < 1 → 2 ≡ shortFault k
-unfolding shortFault ofBook
+pub short-low : (k : ℕ) → k < 1 → 2 ≡ shortNumber ofBook k
+unfolding shortNumber ofBook
 short-low k h = ap (λ (b : Bool). elim (b && leb k 6) [ true ↦ 3 | false ↦ 2 ]) (sym (lt-leb 1 k h))
 
-pub short-high : (k : ℕ) → 1 ≤ k → 6 < k → 2 ≡ shortFault k
-unfolding shortFault ofBook
+pub short-high : (k : ℕ) → 1 ≤ k → 6 < k → 2 ≡ shortNumber ofBook k
+unfolding shortNumber ofBook
 short-high k h l =
     ap₂ (λ (b c : Bool). elim (b && c) [ true ↦ 3 | false ↦ 2 ]) (sym (le-leb 1 k h)) (sym (lt-leb k 6 l))
 

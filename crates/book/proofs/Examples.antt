@@ -12,6 +12,8 @@ use Rattle.reduction.specs.Kept.{goes, keeps, keptOf}
 use Rattle.records.specs.Fields.{bytes, value, field}
 use Rattle.records.specs.Records.{isKind, bodyLengths, bodyLength, kindOf, bytesOf, bytesOfAll}
 use Rattle.records.specs.Reader.{bodies, recordOf, readFront, readAt}
+use Rattle.records.specs.Checks.{firstOf}
+use Rattle.records.specs.Walking.{shortNumber, walkFrom, walk}
 use Rattle.records.specs.declared.Record.{Record}
 use Rattle.records.specs.declared.Record.the-variants.{Attribute, Object, Dependency, Row, Declared, Removed, Item}
 use Rattle.relation.specs.Tables.{cellOf, Table}
@@ -20,11 +22,11 @@ use Rattle.scheme.specs.Dependencies.{pass, passes, closure}
 use Rattle.scheme.specs.Growing.{familyOf, attributesOf, joins, holding, rounds, grown}
 use Rattle.scheme.specs.MaximalObjects.{computed, isOne, removing, adding, maximalObjects, someUnmatched, someCyclic}
 use Rattle.scheme.specs.OfScheme.{pairs, computedOf, maximalOf, unmatchedOf, cyclicOf}
-use Rattle.book.specs.Faults.{ofBook, firstOf, someNonZero, someOutside, wrongCells, rowChecks, maximalChecks}
+use Rattle.book.specs.Faults.{ofBook, someNonZero, someOutside, wrongCells, rowChecks, maximalChecks}
 use Rattle.book.specs.Faults.{checks, faultOf}
 use Rattle.book.specs.Declaring.{nothingDeclared, withAttribute, withObject, withDependency, withDeclared}
 use Rattle.book.specs.Declaring.{withRemoved, declare}
-use Rattle.book.specs.Reading.{Outcome, isRow, withRow, shortFault, readFrom, records, lastFault, afterLast}
+use Rattle.book.specs.Reading.{Outcome, isRow, withRow, records, lastFault, afterLast}
 use Rattle.book.specs.Reading.{lastNumber, read, maximalsOf}
 use Rattle.book.specs.TablesOf.{cellsOf, rowOf, rowsOf, tablesOf}
 
@@ -99,7 +101,7 @@ trials =
     ∷ []
 
 pub trials-hold : map (λ t. t .gives) trials ≡ map (λ t. t .says) trials
-unfolding trials survey ring angles eight result read afterLast lastFault lastNumber records readFrom shortFault
+unfolding trials survey ring angles eight result read afterLast lastFault lastNumber records walk walkFrom shortNumber
     withRow isRow maximalsOf declare withRemoved withDeclared withDependency withObject withAttribute nothingDeclared
     faultOf checks maximalChecks rowChecks wrongCells someOutside someNonZero firstOf ofBook cyclicOf unmatchedOf
     maximalOf computedOf pairs someCyclic someUnmatched maximalObjects adding removing isOne computed grown rounds
@@ -162,10 +164,11 @@ layouts =
 
 pub layouts-hold : map (λ l. l .gives) layouts ≡ map (λ l. l .says) layouts
 unfolding layouts declares tables flatMap tablesOf rowsOf rowOf cellsOf survey mixed read afterLast lastFault lastNumber
-    records readFrom shortFault withRow isRow declare withRemoved withDeclared withDependency withObject withAttribute
-    nothingDeclared faultOf checks maximalChecks rowChecks wrongCells someOutside someNonZero firstOf ofBook cyclicOf
-    unmatchedOf maximalOf computedOf pairs someCyclic someUnmatched maximalObjects adding removing isOne computed grown
-    rounds holding joins attributesOf familyOf closure passes pass cellOf readAt readFront recordOf bodies bytesOfAll
-    bytesOf kindOf bodyLength bodyLengths isKind field value bytes keptOf keeps goes goesFor acyclic left settle staying
-    stays removable someHolds around union inRange members rank isEmpty single _∖_ _∪_ _∩_ within has bit
+    records walk walkFrom shortNumber withRow isRow declare withRemoved withDeclared withDependency withObject
+    withAttribute nothingDeclared faultOf checks maximalChecks rowChecks wrongCells someOutside someNonZero firstOf
+    ofBook cyclicOf unmatchedOf maximalOf computedOf pairs someCyclic someUnmatched maximalObjects adding removing isOne
+    computed grown rounds holding joins attributesOf familyOf closure passes pass cellOf readAt readFront recordOf
+    bodies bytesOfAll bytesOf kindOf bodyLength bodyLengths isKind field value bytes keptOf keeps goes goesFor acyclic
+    left settle staying stays removable someHolds around union inRange members rank isEmpty single _∖_ _∪_ _∩_ within
+    has bit
 layouts-hold = refl

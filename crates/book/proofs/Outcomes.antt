@@ -1,40 +1,37 @@
--- The outcome of reading is where reading stops behind the accepted records, and nothing else is.
--- In order: kinds of a book, faulty records, reading to where it stops, after the last record, the book, its number.
+-- The outcome of reading is where reading stops behind the accepted records, and nothing else is: where a walk by the
+-- rules of a book stops is known (`records`).
+-- In order: the rules of a book, the numbers of the walk, after the last record, the book, its number.
 -- Assumes nothing.
 use mathlib.Core.Path.{_≡_, refl, sym, ap, ap₂, _∙_, subst}
 use mathlib.Core.Bool.{Bool, true, false, _&&_}
 use mathlib.Core.Logic.{_⊎_, inl, inr, ⊎-elim}
-use mathlib.Core.List.{List, [], _∷_, _++_}
-use Prim.Native.Nat.{ℕ, zero, suc, _+_, _-_, _≤_, _<_}
+use mathlib.Core.List.{List, []}
+use Prim.Native.Nat.{ℕ, _≤_, _<_}
 use native.Mathlib.Omega.{arith}
 use borrow.Author.Tests.{leb-false, le-leb, lt-leb, eq-eqb, ne-eqb, lt-ltb, le-ltb}
 use lib.Dec.{leb}
-use lib.ListN.{length, getD}
-use Rattle.sets.proofs.Tests.{yes-or-no, yes-no, no-and}
-use Rattle.sets.proofs.Numbers.{eq-or-ne, lt-or-le}
+use lib.ListN.{length}
+use Rattle.sets.proofs.Tests.{yes-no, no-and}
+use Rattle.sets.proofs.Numbers.{lt-or-le}
+use Rattle.records.specs.Checks.{firstOf}
 use Rattle.records.specs.Records.{isKind, kindOf}
-use Rattle.records.specs.Reader.{readAt}
+use Rattle.records.specs.Walking as Walking
+use Rattle.records.specs.Walking.{Sound, Stop, notAllowed, cutShort, wrong, StopsAt}
 use Rattle.records.specs.declared.Record.{Record}
 use Rattle.records.specs.declared.Record.the-variants.{Attribute, Object, Dependency, Row, Declared, Removed, Item}
 use Rattle.records.specs.declared.Record.the-variants.{CompareTwo, CompareConstant, End}
-use Rattle.records.specs.declared.Reading.{Reading}
-use Rattle.records.specs.declared.Reading.the-variants.{Nothing, Unknown, Short, Found}
-use Rattle.records.proofs.Reader.{readAt-nothing, readAt-short, readAt-whole, nothing-readAt, unknown-readAt}
-use Rattle.records.proofs.Reader.{short-readAt, whole-readAt, found-after}
+use Rattle.records.proofs.Walking.{walk-stops, stops-walk}
 use Rattle.scheme.specs.declared.Scheme.{Scheme}
 use Rattle.scheme.specs.OfScheme.{unmatchedOf, cyclicOf}
-use Rattle.book.specs.Faults.{ofBook, firstOf, checks, faultOf}
-use Rattle.book.specs.Declaring.{nothingDeclared, declare}
-use Rattle.book.specs.Reading.{Outcome, withRow, shortFault, readFrom, records, lastFault, afterLast, read}
-use Rattle.book.specs.Reading.{lastNumber}
-use Rattle.book.specs.Accepting.{Accepted, none, one, Faulty, notAllowed, cutShort, wrong, AtLast, unmatched}
-use Rattle.book.specs.Accepting.{cyclic, good, Stops, faulty, atEnd}
+use Rattle.book.specs.Faults.{ofBook, checks, faultOf}
+use Rattle.book.specs.Declaring.{nothingDeclared}
+use Rattle.book.specs.Reading.{Outcome, Held, nothingHeld, bookRules, outcomeOf, records, lastNumber, lastFault}
+use Rattle.book.specs.Reading.{afterLast, read}
+use Rattle.book.specs.Accepting.{Faulty, AtLast, unmatched, cyclic, good, Stops, faulty, atEnd}
 use Rattle.book.specs.Statements.{StopsWith, FaultyRecord, AcceptedWhole}
 use Rattle.book.proofs.Conditions.{fault-between}
-use Rattle.book.proofs.Accepting.{from-nothing, from-unknown, from-short, from-found, from-faulty, stops-nothing}
-use Rattle.book.proofs.Accepting.{stops-unknown, stops-short, stops-faulty}
 
--- ---- kinds of a book
+-- ---- the rules of a book
 
 no-kind-no-book : (k : ℕ) → isKind k ≡ false → ofBook k ≡ false
 unfolding isKind ofBook
@@ -45,16 +42,8 @@ no-kind-no-book k e =
     high : 10 < k → (leb 1 k && leb k 6) ≡ false
     high h = ap (λ (b : Bool). b && leb k 6) (le-leb 1 k (omega arith)) ∙ lt-leb k 6 (omega arith)
 
-short-of-book : (k : ℕ) → ofBook k ≡ true → shortFault k ≡ 3
-unfolding shortFault
-short-of-book k e = ap (λ (b : Bool). elim b [ true ↦ 3 | false ↦ 2 ]) e
-
-short-not-of-book : (k : ℕ) → ofBook k ≡ false → shortFault k ≡ 2
-unfolding shortFault
-short-not-of-book k e = ap (λ (b : Bool). elim b [ true ↦ 3 | false ↦ 2 ]) e
-
 -- a record of another kind has the fault 2
-pub fault-not-of-book : (s : Scheme) (r : Record) → ofBook (kindOf r) ≡ false → faultOf s r ≡ 2
+fault-not-of-book : (s : Scheme) (r : Record) → ofBook (kindOf r) ≡ false → faultOf s r ≡ 2
 unfolding kindOf ofBook faultOf checks firstOf
 fault-not-of-book s (Attribute id kind) e = absurd (yes-no refl e)
 fault-not-of-book s (Object number set) e = absurd (yes-no refl e)
@@ -67,108 +56,27 @@ fault-not-of-book s (CompareTwo variable attribute operator variable2 attribute2
 fault-not-of-book s (CompareConstant variable attribute operator cell) e = refl
 fault-not-of-book s End e = refl
 
--- ---- faulty records
+bookSound : Sound bookRules
+bookSound = record { known = no-kind-no-book; others = λ h r. fault-not-of-book (h .scheme) r }
 
-module _ {b : List ℕ} (s : Scheme) {at : ℕ} where
-  pub faulty-unknown : readAt b at ≡ Unknown → Faulty b s at 2
-  faulty-unknown e =
-      let w = unknown-readAt b at e in
-      notAllowed (w .within) (no-kind-no-book (getD b at 0) (w .kind))
+-- ---- the numbers of the walk
 
-  pub faulty-short : {k : ℕ} → readAt b at ≡ Short k → Faulty b s at (shortFault k)
-  faulty-short {k} e =
-      let w = short-readAt b at e in
-      ⊎-elim (λ y. subst (Faulty b s at) (sym (short-of-book k y)) (cutShort y w))
-      (λ n. subst (Faulty b s at) (sym (short-not-of-book k n)) (notAllowed (w .within) (ap ofBook (w .byte) ∙ n)))
-      (yes-or-no (ofBook k))
-
-  pub faulty-found : {r : Record} {next : ℕ} → readAt b at ≡ Found r next → (faultOf s r ≡ 0 → ⊥)
-      → Faulty b s at (faultOf s r)
-  faulty-found {r} e d =
-      let w = whole-readAt b at e in
-      let inside : at < length b = omega (arith, w .place, w .within) in
-      ⊎-elim (λ y. wrong w y refl d)
-      (λ n. subst (Faulty b s at) (sym (fault-not-of-book s r n)) (notAllowed inside (ap ofBook (w .byte) ∙ n)))
-      (yes-or-no (ofBook (kindOf r)))
-
--- their numbers
-pub faulty-between : {b : List ℕ} {s : Scheme} {at n : ℕ} → Faulty b s at n → (2 ≤ n) × (n ≤ 7)
-faulty-between (notAllowed h e) = omega arith
-faulty-between (cutShort y c) = omega arith
-faulty-between {s = s} (wrong {r = r} w y e d) =
+faulty-between : (s : Scheme) {b : List ℕ} {at n : ℕ} → Faulty b s at n → (2 ≤ n) × (n ≤ 7)
+faulty-between s (notAllowed h e) = omega arith
+faulty-between s (cutShort y c) = omega arith
+faulty-between s (wrong {r = r} w y e d) =
     let p = fault-between s r (λ z. d (sym e ∙ z)) in
     omega arith
 
--- behind accepted records they stop the reading
-module _ {b : List ℕ} {rs : List Record} {s : Scheme} {rows : List ℕ} {at : ℕ} (a : Accepted b rs s rows at) where
-  numbered : {n m : ℕ} → records b ≡ record { number = n; scheme = s; rows = rows } → n ≡ m
-      → records b ≡ record { number = m; scheme = s; rows = rows }
-  numbered e q = e ∙ ap {B = Outcome} (λ (k : ℕ). record { number = k; scheme = s; rows = rows }) q
-
-  not-allowed-stops : at < length b → ofBook (getD b at 0) ≡ false → (x : Reading) → readAt b at ≡ x
-      → records b ≡ record { number = 2; scheme = s; rows = rows }
-  not-allowed-stops h n Nothing e = absurd (omega (arith, nothing-readAt b at e))
-  not-allowed-stops h n Unknown e = stops-unknown a e
-  not-allowed-stops h n (Short k) e =
-      numbered (stops-short a e) (short-not-of-book k (ap ofBook (sym (short-readAt b at e .byte)) ∙ n))
-  not-allowed-stops h n (Found r next) e =
-      let two = fault-not-of-book s r (ap ofBook (sym (whole-readAt b at e .byte)) ∙ n) in
-      numbered (stops-faulty a e (λ z. absurd (omega (arith, two)))) two
-
-  pub faulty-stops : {n : ℕ} → Faulty b s at n → records b ≡ record { number = n; scheme = s; rows = rows }
-  faulty-stops (notAllowed h n) = not-allowed-stops h n (readAt b at) refl
-  faulty-stops (cutShort {k} y c) = numbered (stops-short a (readAt-short b at k c)) (short-of-book k y)
-  faulty-stops (wrong w y e d) = numbered (stops-faulty a (readAt-whole b at w) (λ z. d (sym e ∙ z))) e
-
--- ---- reading to where it stops
-
--- the records accepted make the scheme and the rows, and behind them stands nothing, or a faulty record with the number
-record Reached (b : List ℕ) (o : Outcome) : Type 0 where
-  passed : List Record
-  at : ℕ
-  accepted : Accepted b passed (o .scheme) (o .rows) at
-  stopped : ((length b ≤ at) × (o .number ≡ 0)) ⊎ Faulty b (o .scheme) at (o .number)
-
-module _ {b : List ℕ} {rs : List Record} {s : Scheme} {rows : List ℕ} {at : ℕ} (a : Accepted b rs s rows at) where
-  reached-end : readAt b at ≡ Nothing → Reached b (record { number = 0; scheme = s; rows = rows })
-  reached-end e = record { passed = rs; at = at; accepted = a; stopped = inl (nothing-readAt b at e, refl) }
-
-  reached-faulty : {n : ℕ} → Faulty b s at n → Reached b (record { number = n; scheme = s; rows = rows })
-  reached-faulty f = record { passed = rs; at = at; accepted = a; stopped = inr f }
-
--- from a position on, by what stands there; of a record without a fault, what follows it is reached before
-step : (b : List ℕ) (n at : ℕ) (rs : List Record) (s : Scheme) (rows : List ℕ) → Accepted b rs s rows at
-    → ((r : Record) (next : ℕ) → readAt b at ≡ Found r next → faultOf s r ≡ 0
-    → Reached b (readFrom n b next (declare s r) (withRow rows r at)))
-    → (x : Reading) → readAt b at ≡ x → Reached b (readFrom (suc n) b at s rows)
-step b n at rs s rows a later Nothing e = subst (Reached b) (sym (from-nothing n b at s rows e)) (reached-end a e)
-step b n at rs s rows a later Unknown e =
-    subst (Reached b) (sym (from-unknown n b at s rows e)) (reached-faulty a (faulty-unknown s e))
-step b n at rs s rows a later (Short k) e =
-    subst (Reached b) (sym (from-short n b at s rows e)) (reached-faulty a (faulty-short s e))
-step b n at rs s rows a later (Found r next) e =
-    ⊎-elim (λ z. subst (Reached b) (sym (from-found n b at s rows e z)) (later r next e z))
-    (λ d. subst (Reached b) (sym (from-faulty n b at s rows e d)) (reached-faulty a (faulty-found s e d)))
-    (eq-or-ne (faultOf s r) 0)
-
-reach : (b : List ℕ) (n at : ℕ) (rs : List Record) (s : Scheme) (rows : List ℕ) → length b - at ≤ n
-    → Accepted b rs s rows at → Reached b (readFrom (suc n) b at s rows)
-reach b zero at rs s rows l a =
-    step b 0 at rs s rows a
-    (λ r next e z. absurd (omega (arith, found-after b at e, whole-readAt b at e .within)))
-    (readAt b at) refl
-reach b (suc n) at rs s rows l a =
-    step b (suc n) at rs s rows a
-    (λ r next e z. reach b n next (rs ++ r ∷ []) (declare s r) (withRow rows r at)
-    (omega (arith, found-after b at e, whole-readAt b at e .within)) (one a e z))
-    (readAt b at) refl
-
-records-reached : (b : List ℕ) → Reached b (records b)
-unfolding records
-records-reached b = reach b (length b) 0 [] nothingDeclared [] (omega arith) none
+walk-number : {b : List ℕ} {w : Stop Held} → StopsAt bookRules b nothingHeld w
+    → (w .number ≡ 0) ⊎ ((2 ≤ w .number) × (w .number ≤ 7))
+walk-number (Walking.faulty {s = h} a f) = inr (faulty-between (h .scheme) f)
+walk-number (Walking.atEnd a l) = inl refl
+walk-number (Walking.atLast a e f l) = inl refl
 
 pub records-number : (b : List ℕ) → (records b .number ≡ 0) ⊎ ((2 ≤ records b .number) × (records b .number ≤ 7))
-records-number b = ⊎-elim (λ p. inl (p .1)) (λ f. inr (faulty-between f)) (records-reached b .stopped)
+unfolding records
+records-number b = walk-number (walk-stops bookRules bookSound b nothingHeld)
 
 -- ---- after the last record
 
@@ -181,7 +89,7 @@ at-last s = choose (unmatchedOf s) refl (cyclicOf s) refl
     choose false p true q = cyclic p q
     choose false p false q = good p q
 
-pub at-last-is : {s : Scheme} {n : ℕ} → AtLast s n → lastFault s ≡ n
+at-last-is : {s : Scheme} {n : ℕ} → AtLast s n → lastFault s ≡ n
 unfolding lastFault lastNumber
 at-last-is {s} (unmatched p) = ap (λ (u : Bool). lastNumber u (cyclicOf s)) p
 at-last-is (cyclic p q) = ap₂ lastNumber p q
@@ -232,41 +140,38 @@ read-within b h =
     ])
     (le-ltb 65536 (length b) h)
 
--- what is reached is where reading stops
-reached-stops : (b : List ℕ) (o : Outcome) → Reached b o → StopsWith b (afterLast o)
-reached-stops b o r = ⊎-elim end fault (r .stopped)
-  where
-    end : (length b ≤ r .at) × (o .number ≡ 0) → StopsWith b (afterLast o)
-    end p =
-        subst (StopsWith b) (sym (after-end o (p .1))) (record {
-          passed = r .passed;
-          at = r .at;
-          accepted = r .accepted;
-          stops = atEnd (p .0) (at-last (o .scheme));
-        })
-
-    fault : Faulty b (o .scheme) (r .at) (o .number) → StopsWith b (afterLast o)
-    fault f =
-        subst (StopsWith b) (sym (after-fault o (λ z. absurd (omega (arith, faulty-between f))))) (record {
-          passed = r .passed;
-          at = r .at;
-          accepted = r .accepted;
-          stops = faulty f;
-        })
+-- where the walk stops, reading stops with the number of the faulty record, or after the last record
+walk-stops-with : {b : List ℕ} {w : Stop Held} → StopsAt bookRules b nothingHeld w
+    → StopsWith b (afterLast (outcomeOf w))
+walk-stops-with {b} (Walking.faulty {rs = rs} {s = h} {at = at} {n = n} a f) =
+    subst (StopsWith b)
+    (sym (after-fault (record { number = n; scheme = h .scheme; rows = h .rows })
+    (λ z. absurd (omega (arith, faulty-between (h .scheme) f)))))
+    (record { passed = rs; at = at; accepted = a; stops = faulty f })
+walk-stops-with {b} (Walking.atEnd {rs = rs} {s = h} {at = at} a l) =
+    subst (StopsWith b) (sym (after-end (record { number = 0; scheme = h .scheme; rows = h .rows }) refl))
+    (record { passed = rs; at = at; accepted = a; stops = atEnd l (at-last (h .scheme)) })
+walk-stops-with (Walking.atLast a e f l) = absurd (yes-no l refl)
 
 pub read-stops : (b : List ℕ) → length b ≤ 65536 → StopsWith b (read b)
-read-stops b h = subst (StopsWith b) (sym (read-within b h)) (reached-stops b (records b) (records-reached b))
+unfolding records
+read-stops b h =
+    subst (StopsWith b) (sym (read-within b h)) (walk-stops-with (walk-stops bookRules bookSound b nothingHeld))
 
 -- and where reading stops is the outcome
 pub stops-read : (b : List ℕ) (o : Outcome) → length b ≤ 65536 → StopsWith b o → read b ≡ o
+unfolding records
 stops-read b o h w = read-within b h ∙ by (w .stops)
   where
+    walked : {x : Stop Held} → StopsAt bookRules b nothingHeld x → afterLast (records b) ≡ afterLast (outcomeOf x)
+    walked p = ap (λ (x : Stop Held). afterLast (outcomeOf x)) (stops-walk bookRules bookSound b nothingHeld p)
+
     by : Stops b (o .scheme) (w .at) (o .number) → afterLast (records b) ≡ o
     by (faulty f) =
-        let e : records b ≡ o = faulty-stops (w .accepted) f in
-        ap afterLast e ∙ after-fault o (λ z. absurd (omega (arith, faulty-between f)))
+        walked (Walking.faulty (w .accepted) f)
+        ∙ after-fault o (λ z. absurd (omega (arith, faulty-between (o .scheme) f)))
     by (atEnd l t) =
-        ap afterLast (stops-nothing (w .accepted) (readAt-nothing b (w .at) l))
+        walked (Walking.atEnd (w .accepted) l)
         ∙ after-end (record { number = 0; scheme = o .scheme; rows = o .rows }) refl
         ∙ ap {B = Outcome} (λ (n : ℕ). record { number = n; scheme = o .scheme; rows = o .rows }) (at-last-is t)
 
@@ -283,7 +188,7 @@ number-at-most b =
     (lt-or-le 65536 (length b))
   where
     within : {at : ℕ} → Stops b (read b .scheme) at (read b .number) → read b .number ≤ 9
-    within (faulty f) = omega (arith, faulty-between f)
+    within (faulty f) = omega (arith, faulty-between (read b .scheme) f)
     within (atEnd l t) = ⊎-elim (λ z. omega arith) (λ p. omega arith) (at-last-number t)
 
 pub number-over : (b : List ℕ) → 65536 < length b → read b .number ≡ 1
@@ -293,7 +198,7 @@ pub number-not-one : (b : List ℕ) → length b ≤ 65536 → read b .number �
 number-not-one b h e = within (read-stops b h .stops)
   where
     within : {at : ℕ} → Stops b (read b .scheme) at (read b .number) → ⊥
-    within (faulty f) = absurd (omega (arith, faulty-between f))
+    within (faulty f) = absurd (omega (arith, faulty-between (read b .scheme) f))
     within (atEnd l t) = ⊎-elim (λ z. absurd (omega arith)) (λ p. absurd (omega arith)) (at-last-number t)
 
 -- a number other than 1 comes from a book that is not too long
@@ -328,7 +233,7 @@ pub good-last : (b : List ℕ) → read b .number ≡ 0 → AtLast (read b .sche
 good-last b e = by (read-stops b (number-within b (λ z. omega arith)) .stops)
   where
     by : {at : ℕ} → Stops b (read b .scheme) at (read b .number) → AtLast (read b .scheme) 0
-    by (faulty f) = absurd (omega (arith, faulty-between f))
+    by (faulty f) = absurd (omega (arith, faulty-between (read b .scheme) f))
     by (atEnd x t) = subst (AtLast (read b .scheme)) e t
 
 pub number-whole : (b : List ℕ) (n : ℕ) → (n ≡ 0) ⊎ (8 ≤ n) → length b ≤ 65536 → read b .number ≡ n → AcceptedWhole b n
@@ -338,7 +243,9 @@ number-whole b n c h e = within (read-stops b h)
     within w = by (w .stops)
       where
         by : Stops b (read b .scheme) (w .at) (read b .number) → AcceptedWhole b n
-        by (faulty f) = absurd (⊎-elim (λ z. omega (arith, faulty-between f)) (λ z. omega (arith, faulty-between f)) c)
+        by (faulty f) =
+            let range = faulty-between (read b .scheme) f in
+            absurd (⊎-elim (λ z. omega arith) (λ z. omega arith) c)
         by (atEnd x t) = record {
           passed = w .passed;
           scheme = read b .scheme;

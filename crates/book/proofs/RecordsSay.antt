@@ -23,6 +23,7 @@ use Rattle.sets.proofs.Sets.{∪-cases, ∪-left, in-single, insert-in, zero-ou
 use Rattle.records.specs.Fields.{field}
 use Rattle.records.specs.Records.{bodyLengths, bodyLength, kindOf, bytesOf, bytesOfAll}
 use Rattle.records.specs.Reader.{bodies, recordOf, readAt, Reads, done, more}
+use Rattle.records.specs.Walking.{none, one}
 use Rattle.records.specs.declared.Record.{Record}
 use Rattle.records.specs.declared.Record.the-variants.{Attribute, Object, Dependency, Row, Declared, Removed, Item}
 use Rattle.records.specs.declared.Record.the-variants.{CompareTwo, CompareConstant, End}
@@ -38,8 +39,8 @@ use Rattle.book.specs.Faults.{faultOf}
 use Rattle.book.specs.Declaring.{nothingDeclared, declare, withAttribute, withObject, withDependency}
 use Rattle.book.specs.Declaring.{withDeclared}
 use Rattle.book.specs.Declaring.{withRemoved}
-use Rattle.book.specs.Reading.{Outcome, isRow, withRow}
-use Rattle.book.specs.Accepting.{Accepted, none, one}
+use Rattle.book.specs.Reading.{Outcome, Held, isRow, withRow}
+use Rattle.book.specs.Accepting.{AcceptedAs}
 use Rattle.book.specs.WellFormed.{WellFormed}
 use Rattle.book.specs.TablesOf.{cellsOf, rowOf, rowsOf, tablesOf}
 use Rattle.book.specs.RecordsSay.{Gathered, ended, taken, passedOver, SaysDependency, SaysDeclared, SaysRemoved}
@@ -322,10 +323,10 @@ module _ {rs : List Record} {s : Scheme} (w : WellFormed s) (v : SchemeSaid rs s
       says-nothing (CompareConstant variable attribute operator cell) v (inr (omega arith))
   declare-said End f = says-nothing End v (inr (omega arith))
 
-pub accepted-scheme-said : {b : List ℕ} {rs : List Record} {s : Scheme} {rows : List ℕ} {at : ℕ}
-    → Accepted b rs s rows at → SchemeSaid rs s
+pub accepted-scheme-said : {b : List ℕ} {rs : List Record} {h : Held} {at : ℕ} → AcceptedAs b rs h at
+    → SchemeSaid rs (h .scheme)
 accepted-scheme-said none = nothing-said
-accepted-scheme-said (one {r = r} a e f) = declare-said (accepted-well-formed a) (accepted-scheme-said a) r f
+accepted-scheme-said (one {r = r} a e f l) = declare-said (accepted-well-formed a) (accepted-scheme-said a) r f
 
 -- ---- the rows
 
@@ -347,11 +348,11 @@ length-all-more (q ∷ rs) r =
     )
 
 -- accepted records end behind their bytes
-accepted-length : {b : List ℕ} {rs : List Record} {s : Scheme} {rows : List ℕ} {at : ℕ} → Accepted b rs s rows at
+accepted-length : {b : List ℕ} {rs : List Record} {h : Held} {at : ℕ} → AcceptedAs b rs h at
     → at ≡ length (bytesOfAll rs)
 unfolding bytesOfAll
 accepted-length none = refl
-accepted-length {b} (one {rs = rs} {at = at} {r = r} a e f) =
+accepted-length {b} (one {rs = rs} {at = at} {r = r} a e f l) =
     omega (
       arith,
       accepted-length a,
@@ -464,11 +465,11 @@ module _ {b : List ℕ} {rs : List Record} {rows : List ℕ} {at next : ℕ} (v 
       no-row-said (CompareConstant variable attribute operator cell) (λ z. omega arith) e
   more-said End e = no-row-said End (λ z. omega arith) e
 
-pub accepted-rows-said : {b : List ℕ} {rs : List Record} {s : Scheme} {rows : List ℕ} {at : ℕ}
-    → Accepted b rs s rows at → RowsSaid b rs rows at
+pub accepted-rows-said : {b : List ℕ} {rs : List Record} {h : Held} {at : ℕ} → AcceptedAs b rs h at
+    → RowsSaid b rs (h .rows) at
 unfolding rowsOf
 accepted-rows-said none = record { read = done; positions = behindLast; ofObject = λ k. ended }
-accepted-rows-said (one {r = r} a e f) = more-said (accepted-rows-said a) (accepted-length a) r e
+accepted-rows-said (one {r = r} a e f l) = more-said (accepted-rows-said a) (accepted-length a) r e
 
 -- ---- the tables
 

@@ -17,6 +17,7 @@ use Rattle.sets.proofs.Bits.{in-out, member-lt}
 use Rattle.sets.proofs.Sets.{∪-left}
 use Rattle.values.specs.Values.{inRange}
 use Rattle.records.specs.Reader.{readAt}
+use Rattle.records.specs.Walking.{none, one}
 use Rattle.records.specs.declared.Record.{Record}
 use Rattle.records.specs.declared.Record.the-variants.{Attribute, Object, Dependency, Row, Declared, Removed, Item}
 use Rattle.records.specs.declared.Record.the-variants.{CompareTwo, CompareConstant, End}
@@ -27,8 +28,8 @@ use Rattle.scheme.specs.declared.Scheme.{Scheme}
 use Rattle.scheme.specs.Growing.{familyOf}
 use Rattle.book.specs.Faults.{someNonZero, someOutside, wrongCells, faultOf}
 use Rattle.book.specs.Declaring.{declare, withAttribute, withObject, withDependency, withDeclared, withRemoved}
-use Rattle.book.specs.Reading.{Outcome, isRow, withRow}
-use Rattle.book.specs.Accepting.{Accepted, none, one}
+use Rattle.book.specs.Reading.{Outcome, Held, isRow, withRow}
+use Rattle.book.specs.Accepting.{Accepted, AcceptedAs}
 use Rattle.book.specs.WellFormed.{WellFormed}
 use Rattle.book.specs.TablesOf.{cellsOf, rowOf, rowsOf, tablesOf, InRange}
 use Rattle.book.proofs.Declaring.{NewAttribute, NewObject, KnownRow, attribute-accepted, object-accepted}
@@ -149,10 +150,10 @@ module _ {b : List ℕ} {s : Scheme} {rows : List ℕ} (at : ℕ) {next : ℕ} (
   with-row (CompareConstant variable attribute operator cell) e f p m = older p m
   with-row End e f p m = older p m
 
-accepted-rows-at : {b : List ℕ} {rs : List Record} {s : Scheme} {rows : List ℕ} {at : ℕ} → Accepted b rs s rows at
-    → (p : ℕ) → List·Memᴰ p rows → RowAt b s p
+accepted-rows-at : {b : List ℕ} {rs : List Record} {h : Held} {at : ℕ} → AcceptedAs b rs h at
+    → (p : ℕ) → List·Memᴰ p (h .rows) → RowAt b (h .scheme) p
 accepted-rows-at none p m = absurd (List·Memᴰ·not-nil m)
-accepted-rows-at (one {at = at} {r = r} a e f) p m =
+accepted-rows-at (one {at = at} {r = r} a e f l) p m =
     after (accepted-well-formed a) (with-row at (accepted-well-formed a) (λ q i. accepted-rows-at a q i) r e f p m) r f
 
 -- ---- the rows of an object

@@ -12,6 +12,8 @@ use Rattle.sets.proofs.Numbers.{lt-or-le}
 use Rattle.reduction.specs.Steps.{Family}
 use Rattle.reduction.specs.Kept.{union}
 use Rattle.reduction.specs.Statements.{OfAttributes}
+use Rattle.records.specs.Checks.{First}
+use Rattle.records.specs.Walking.{none}
 use Rattle.records.specs.declared.Record.{Record}
 use Rattle.relation.proofs.Theorems.{demand3}
 use Rattle.scheme.specs.declared.Scheme.{Scheme}
@@ -20,8 +22,8 @@ use Rattle.scheme.specs.OfScheme.{dependenciesOf, declaredOf, removedOf, maxima
 use Rattle.scheme.proofs.Theorems.{object-joins-by-the-rule, grown-is-the-same-in-every-order, computed-is-the-list}
 use Rattle.scheme.proofs.Theorems.{maximal-objects-are-the-list, cyclic-is-a-fault}
 use Rattle.book.specs.Reading.{Outcome, read}
-use Rattle.book.specs.Accepting.{Accepted, none, AtLast, good}
-use Rattle.book.specs.Conditions.{First, conditions}
+use Rattle.book.specs.Accepting.{Accepted, AtLast, good}
+use Rattle.book.specs.Conditions.{conditions}
 use Rattle.book.specs.Statements.{FaultMeans, ReadExactly, StopsWith, NumberMeans, AcceptedSay, RowInBytes}
 use Rattle.book.specs.Statements.{SchemeWellFormed, MaximalObjectsRead, TablesOfBook, MaximalObjectsOfBook}
 use Rattle.book.specs.TablesOf.{tablesOf}

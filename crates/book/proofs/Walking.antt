@@ -11,20 +11,22 @@ use lib.ListN.{length, set, length-append}
 use types.Run.{OneOf, miss}
 use denote.Enum.Declared.{tagOf}
 use Rattle.records.proofs.Reading.{the-type}
+use Rattle.records.proofs.Walking.{accepted-inside, stops-nothing, stops-unknown, stops-short, stops-faulty}
 use Rattle.records.specs.Reader.{readAt}
+use Rattle.records.specs.Walking.{Stop, walk, none, one}
 use Rattle.records.specs.declared.Record.{Record}
 use Rattle.records.specs.declared.Reading.{Reading}
 use Rattle.records.specs.declared.Reading.the-variants.{Nothing, Unknown, Short, Found}
 use Rattle.scheme.specs.declared.Scheme.{Scheme}
 use Rattle.book.specs.Faults.{SixAtMost, faultOf}
 use Rattle.book.specs.Declaring.{nothingDeclared, declare}
-use Rattle.book.specs.Reading.{Outcome, isRow, withRow, stopNumber, records, walkedOf, stored}
-use Rattle.book.specs.Accepting.{Accepted, none, one}
+use Rattle.book.specs.Reading.{isRow, withRow, stopNumber, Held, nothingHeld, bookRules, outcomeOf, records}
+use Rattle.book.specs.Reading.{walkedOf, stored}
+use Rattle.book.specs.Accepting.{Accepted}
 use Rattle.book.specs.declared.Walked.{Walked}
 use Rattle.book.proofs.WellFormed.{accepted-well-formed, well-formed-six}
 use Rattle.book.proofs.Lists.{stored-none, length-stored, stored-one, stored-full}
-use Rattle.book.proofs.Accepting.{accepted-inside, accepted-rows, withRow-yes, withRow-no, stops-nothing}
-use Rattle.book.proofs.Accepting.{stops-unknown, stops-short, stops-faulty}
+use Rattle.book.proofs.Accepting.{accepted-rows, withRow-yes, withRow-no}
 
 pub record Walking (b dir₀ dir : List ℕ) (s : Scheme) (rows at : ℕ) : Type 0 where
   pub passed : List Record
@@ -65,7 +67,7 @@ module _ {b dir₀ dir : List ℕ} {s : Scheme} {rows at : ℕ} (v : Walking b d
     walking-next d n c k = record {
       passed = v .passed ++ r ∷ [];
       places = withRow (v .places) r at;
-      accepted = one (v .accepted) e f;
+      accepted = one (v .accepted) e f refl;
       counted = c;
       kept = k;
     }
@@ -95,18 +97,17 @@ module _ {b dir₀ dir : List ℕ} {s : Scheme} {rows at : ℕ} (v : Walking b d
 
   -- ---- the ways out: the number n, with the scheme and the rows of the records passed
 
-  walking-out : (n : ℕ) → records b ≡ record { number = n; scheme = s; rows = v .places }
+  walking-out : {n m : ℕ}
+      → walk bookRules b nothingHeld ≡ record { number = m; state = record { scheme = s; rows = v .places }; at = at }
+      → n ≡ m
       → (_≡_ {A = Walked} (record { refusal = n; rows = rows; scheme = s }) (walkedOf (records b)))
       × (dir ≡ stored (records b .rows) dir₀)
-  unfolding walkedOf
-  walking-out n e = (
-    ap {B = Walked} (λ (k : ℕ). record { refusal = n; rows = k; scheme = s }) (v .counted) ∙ ap walkedOf (sym e),
-    v .kept ∙ ap (λ (o : Outcome). stored (o .rows) dir₀) (sym e),
+  unfolding walkedOf records
+  walking-out e q = (
+    ap₂ {C = Walked} (λ (i k : ℕ). record { refusal = i; rows = k; scheme = s }) q (v .counted)
+        ∙ ap (λ (w : Stop Held). walkedOf (outcomeOf w)) (sym e),
+    v .kept ∙ ap (λ (w : Stop Held). stored (w .state .rows) dir₀) (sym e),
   )
-
-  renumbered : {n m : ℕ} → records b ≡ record { number = m; scheme = s; rows = v .places } → n ≡ m
-      → records b ≡ record { number = n; scheme = s; rows = v .places }
-  renumbered e q = e ∙ ap {B = Outcome} (λ (k : ℕ). record { number = k; scheme = s; rows = v .places }) (sym q)
 
   -- no whole record stands there
   pub walking-unread : {n : ℕ} (x : Reading) → readAt b at ≡ x → OneOf (0 ∷ 1 ∷ 2 ∷ []) (tagOf the-type x) → n ≡
@@ -114,15 +115,15 @@ module _ {b dir₀ dir : List ℕ} {s : Scheme} {rows at : ℕ} (v : Walking b d
       → (_≡_ {A = Walked} (record { refusal = n; rows = rows; scheme = s }) (walkedOf (records b)))
       × (dir ≡ stored (records b .rows) dir₀)
   unfolding stopNumber
-  walking-unread {n} Nothing e k q = walking-out n (renumbered (stops-nothing (v .accepted) e) q)
-  walking-unread {n} Unknown e k q = walking-out n (renumbered (stops-unknown (v .accepted) e) q)
-  walking-unread {n} (Short kind) e k q = walking-out n (renumbered (stops-short (v .accepted) e) q)
+  walking-unread Nothing e k q = walking-out (stops-nothing (v .accepted) e) q
+  walking-unread Unknown e k q = walking-out (stops-unknown (v .accepted) e) q
+  walking-unread (Short kind) e k q = walking-out (stops-short (v .accepted) e) q
   walking-unread (Found r next) e k q = absurd (miss (0 ∷ 1 ∷ 2 ∷ []) 3 tt k)
 
   pub walking-faulty : {r : Record} {next n : ℕ} → readAt b at ≡ Found r next → n ≡ faultOf s r → (n ≡ 0 → ⊥)
       → (_≡_ {A = Walked} (record { refusal = n; rows = rows; scheme = s }) (walkedOf (records b)))
       × (dir ≡ stored (records b .rows) dir₀)
-  walking-faulty {n = n} e q d = walking-out n (renumbered (stops-faulty (v .accepted) e (λ z. d (q ∙ z))) q)
+  walking-faulty e q d = walking-out (stops-faulty (v .accepted) e (λ z. d (q ∙ z))) q
 
 -- the same of a directory, a scheme and a count that are equal to these
 pub walking-as : {b dir₀ dir d : List ℕ} {s t : Scheme} {rows at n : ℕ} → Walking b dir₀ dir s rows at → d ≡ dir → t ≡ s

@@ -16,6 +16,7 @@ use Rattle.sets.specs.Sets.{bit, _∈_, _∉_, _⊆_, insert, single, rank, cou
 use Rattle.sets.proofs.Bits.{in-out, not-in, member-or-not}
 use Rattle.sets.proofs.Numbers.{eq-or-ne}
 use Rattle.sets.proofs.Sets.{∪-cases, ∪-left, in-single, insert-in, ⊆-∪-left, ⊆-trans, ∪-lt, single-lt, zero-out, ⊆-le}
+use Rattle.records.specs.Walking.{none, one}
 use Rattle.records.specs.declared.Record.{Record}
 use Rattle.records.specs.declared.Record.the-variants.{Attribute, Object, Dependency, Row, Declared, Removed, Item}
 use Rattle.records.specs.declared.Record.the-variants.{CompareTwo, CompareConstant, End}
@@ -30,7 +31,8 @@ use Rattle.reduction.proofs.Places.{place-of}
 use Rattle.book.specs.Faults.{SixAtMost, faultOf}
 use Rattle.book.specs.Declaring.{nothingDeclared, withAttribute, withObject, withDependency, withDeclared}
 use Rattle.book.specs.Declaring.{withRemoved, declare}
-use Rattle.book.specs.Accepting.{Accepted, none, one}
+use Rattle.book.specs.Reading.{Held}
+use Rattle.book.specs.Accepting.{AcceptedAs}
 use Rattle.book.specs.WellFormed.{SomeAttributes, ObjectSet, Arrays, WellFormed}
 use Rattle.book.proofs.Lists.{changed, getD-zeros}
 use Rattle.book.proofs.Declaring.{NewAttribute, NewObject, NewDependency, NewMaximal, attribute-accepted}
@@ -291,10 +293,10 @@ declare-well-formed s (CompareTwo variable attribute operator variable2 attribut
 declare-well-formed s (CompareConstant variable attribute operator cell) v f = v
 declare-well-formed s End v f = v
 
-pub accepted-well-formed : {b : List ℕ} {rs : List Record} {s : Scheme} {rows : List ℕ} {at : ℕ}
-    → Accepted b rs s rows at → WellFormed s
+pub accepted-well-formed : {b : List ℕ} {rs : List Record} {h : Held} {at : ℕ} → AcceptedAs b rs h at
+    → WellFormed (h .scheme)
 accepted-well-formed none = nothing-well-formed
-accepted-well-formed (one {s = s} {r = r} a e f) = declare-well-formed s r (accepted-well-formed a) f
+accepted-well-formed (one {s = h} {r = r} a e f l) = declare-well-formed (h .scheme) r (accepted-well-formed a) f
 
 -- ---- what a caller needs of it
 

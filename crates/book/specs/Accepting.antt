@@ -1,43 +1,36 @@
 -- Reading a book in the paper's words: records that were read one after another without a fault, and where reading
 -- stops. That `read` gives exactly this is a theorem (`Statements`).
--- In order: accepted records, a faulty record, the end.
+-- In order: accepted records, a faulty record, the end. Not here: both for any rules (`records`).
 -- Assumes nothing.
 use mathlib.Core.Path.{_≡_}
 use mathlib.Core.Bool.{true, false}
-use mathlib.Core.List.{List, [], _∷_, _++_}
-use Prim.Native.Nat.{ℕ, _≤_, _<_}
-use lib.ListN.{length, getD}
-use Rattle.records.specs.Records.{kindOf}
-use Rattle.records.specs.Reader.{readAt, CutShort, Whole}
+use mathlib.Core.List.{List}
+use Prim.Native.Nat.{ℕ, _≤_}
+use lib.ListN.{length}
+use Rattle.records.specs.Walking as Walking
 use Rattle.records.specs.declared.Record.{Record}
-use Rattle.records.specs.declared.Reading.the-variants.{Found}
 use Rattle.scheme.specs.declared.Scheme.{Scheme}
 use Rattle.scheme.specs.OfScheme.{unmatchedOf, cyclicOf}
 use Rattle.book.specs.Faults.{ofBook, faultOf}
-use Rattle.book.specs.Declaring.{nothingDeclared, declare}
-use Rattle.book.specs.Reading.{withRow}
+use Rattle.book.specs.Reading.{Held, nothingHeld, bookRules}
 
 -- ---- accepted records
 
 -- the records rs were read one after another from the start of b, and none was faulty in the scheme that those before
--- it made: "A record uses only what stands before it." s is the scheme that they make, rows the positions of the rows
--- among them, at the position behind the last
-pub data Accepted (b : List ℕ) : List Record → Scheme → List ℕ → ℕ → Type 0 where
-  none : Accepted b [] nothingDeclared [] 0
-  one : {rs : List Record} {s : Scheme} {rows : List ℕ} {at : ℕ} {r : Record} {next : ℕ}
-      → Accepted b rs s rows at → readAt b at ≡ Found r next → faultOf s r ≡ 0
-      → Accepted b (rs ++ r ∷ []) (declare s r) (withRow rows r at) next
+-- it made: "A record uses only what stands before it." h is what they make, at the position behind the last
+abbrev pub AcceptedAs : List ℕ → List Record → Held → ℕ → Type 0
+AcceptedAs b rs h at = Walking.Accepted bookRules b nothingHeld rs h at
 
--- ---- a faulty record: what stands at a position has the fault n, in the scheme of what stands before it
+-- s is the scheme that they make, rows the positions of the rows among them
+abbrev pub Accepted : List ℕ → List Record → Scheme → List ℕ → ℕ → Type 0
+Accepted b rs s rows at = AcceptedAs b rs (record { scheme = s; rows = rows }) at
 
-pub data Faulty (b : List ℕ) (s : Scheme) (at : ℕ) : ℕ → Type 0 where
-  -- "kind not allowed 2": a byte stands there that is no kind of a book, whatever follows it
-  notAllowed : at < length b → ofBook (getD b at 0) ≡ false → Faulty b s at 2
-  -- "body cut short 3"
-  cutShort : {k : ℕ} → ofBook k ≡ true → CutShort b at k → Faulty b s at 3
-  -- 4 to 7: a whole record of a book
-  wrong : {r : Record} {next n : ℕ} → Whole b at r next → ofBook (kindOf r) ≡ true → faultOf s r ≡ n → (n ≡ 0 → ⊥)
-      → Faulty b s at n
+-- ---- a faulty record
+
+-- what stands at a position has the fault n, in the scheme of what stands before it:
+-- "kind not allowed 2; body cut short 3", or 4 to 7 of a whole record of a book
+abbrev pub Faulty : List ℕ → Scheme → ℕ → ℕ → Type 0
+Faulty b s at n = Walking.Faulty ofBook (faultOf s) b at n
 
 -- ---- the end: the faults of the whole scheme "After the last record"
 

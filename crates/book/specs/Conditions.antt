@@ -1,6 +1,6 @@
 -- The checks of a record in the paper's words, as conditions and not as tests. That `faultOf` is the number of the
 -- first that holds is a theorem (`Statements`).
--- In order: conditions, a row's cells, the conditions of each kind.
+-- In order: a row's cells, the conditions of each kind. Not here: the first of some conditions (`records`).
 -- Assumes nothing.
 use mathlib.Core.Path.{_≡_}
 use mathlib.Core.Bool.{false}
@@ -10,27 +10,12 @@ use Prim.Native.Nat.{ℕ, _≤_, _<_}
 use lib.ListN.{getD}
 use Rattle.sets.specs.Sets.{_∈_, _∉_, _⊆_, count}
 use Rattle.values.specs.Values.{inRange}
+use Rattle.records.specs.Checks.{Condition, _gives_}
 use Rattle.records.specs.declared.Record.{Record}
 use Rattle.records.specs.declared.Record.the-variants.{Attribute, Object, Dependency, Row, Declared, Removed, Item}
 use Rattle.records.specs.declared.Record.the-variants.{CompareTwo, CompareConstant, End}
 use Rattle.relation.specs.Tables.{cellOf}
 use Rattle.scheme.specs.declared.Scheme.{Scheme}
-
--- ---- conditions
-
--- a condition and the number that it gives
-pub record Condition : Type 1 where
-  pub holds : Type 0
-  pub number : ℕ
-
-abbrev pub _gives_ : Type 0 → ℕ → Condition
-P gives n = record { holds = P; number = n }
-
-infix 1 _gives_
--- n is the number of the first condition that holds, or 0 where none does
-unfoldable pub First : List Condition → ℕ → Type 0
-First [] n = n ≡ 0
-First (c ∷ cs) n = (c .holds × (n ≡ c .number)) ⊎ ((c .holds → ⊥) × First cs n)
 
 -- ---- a row's cells
 

@@ -1,7 +1,7 @@
 -- What is wrong with a record of a book: "Reading a book" of the paper. The checks of each kind stand in the paper's
 -- order, each with the number that it gives; the first that holds is the fault.
--- In order: kinds of a book, the first of some checks, a row's cells, the checks of a record, its fault.
--- Not here: a body that is cut short (`Reading`). Assumes nothing.
+-- In order: kinds of a book, a row's cells, the checks of a record, its fault.
+-- Not here: the first of some checks (`records`), a body that is cut short (`Reading`). Assumes nothing.
 use mathlib.Core.Bool.{Bool, true, false, not, _&&_, _||_}
 use mathlib.Core.List.{List, [], _∷_}
 use Prim.Native.Nat.{ℕ, zero, suc, _≤_}
@@ -9,6 +9,7 @@ use lib.Dec.{eqb, ltb, leb}
 use lib.ListN.{getD, drop}
 use Rattle.sets.specs.Sets.{has, within, isEmpty, count}
 use Rattle.values.specs.Values.{inRange}
+use Rattle.records.specs.Checks.{firstOf}
 use Rattle.records.specs.declared.Record.{Record}
 use Rattle.records.specs.declared.Record.the-variants.{Attribute, Object, Dependency, Row, Declared, Removed, Item}
 use Rattle.records.specs.declared.Record.the-variants.{CompareTwo, CompareConstant, End}
@@ -18,13 +19,6 @@ use Rattle.scheme.specs.declared.Scheme.{Scheme}
 -- "A book has kinds 1 to 6"
 unfoldable pub ofBook : ℕ → Bool
 ofBook k = leb 1 k && leb k 6
-
--- ---- the first of some checks
-
--- the number of the first check that holds, 0 where none does
-unfoldable pub firstOf : List (Bool × ℕ) → ℕ
-firstOf [] = 0
-firstOf ((holds, number) ∷ checks) = elim holds [ true ↦ number | false ↦ firstOf checks ]
 
 -- ---- a row's cells. "A row's cells follow ascending attribute id; cells not needed are zero."
 

@@ -1,12 +1,13 @@
 -- Reading the bytes of a book: the number that it is refused with or 0, the scheme, and where its rows stand.
 -- In order: rows, reading record after record, after the last record, the book, what the code gives.
--- Not here: the fault of a whole record (`Faults`), what it adds (`Declaring`). Assumes nothing.
+-- Not here: walking records by rules (`records`), the fault of a whole record (`Faults`), what it adds (`Declaring`).
+-- Assumes nothing.
 use mathlib.Core.Bool.{Bool, true, false, _||_}
 use mathlib.Core.List.{List, [], _∷_, _++_}
-use Prim.Native.Nat.{ℕ, zero, suc}
+use Prim.Native.Nat.{ℕ}
 use lib.Dec.{eqb, ltb}
 use lib.ListN.{length, take, drop}
-use Rattle.records.specs.Reader.{readAt}
+use Rattle.records.specs.Walking.{Rules, Stop, shortNumber, walk}
 use Rattle.records.specs.declared.Record.{Record}
 use Rattle.records.specs.declared.Record.the-variants.{Attribute, Object, Dependency, Row, Declared, Removed, Item}
 use Rattle.records.specs.declared.Record.the-variants.{CompareTwo, CompareConstant, End}
@@ -46,35 +47,37 @@ withRow rows r at = elim (isRow r) [ true ↦ rows ++ at ∷ [] | false ↦ rows
 
 -- ---- reading record after record
 
--- "kind not allowed 2; body cut short 3" of a body that is cut short
-unfoldable pub shortFault : ℕ → ℕ
-shortFault k = elim (ofBook k) [ true ↦ 3 | false ↦ 2 ]
-
 -- the number where no whole record stands: 0 at the end
 unfoldable pub stopNumber : Reading → ℕ
 stopNumber Nothing = 0
 stopNumber Unknown = 2
-stopNumber (Short k) = shortFault k
+stopNumber (Short k) = shortNumber ofBook k
 stopNumber (Found r next) = 0
 
--- "the earliest faulty record": from position at on, with the scheme and the rows of the records before it. Each record
--- is a byte or more, so there are at most n where n bytes are left
-unfoldable pub readFrom : ℕ → List ℕ → ℕ → Scheme → List ℕ → Outcome
-readFrom zero b at s rows = record { number = 0; scheme = s; rows = rows }
-readFrom (suc n) b at s rows =
-    elim (readAt b at) [
-      | Nothing ↦ record { number = 0; scheme = s; rows = rows }
-      | Unknown ↦ record { number = 2; scheme = s; rows = rows }
-      | Short k ↦ record { number = shortFault k; scheme = s; rows = rows }
-      | Found r next ↦ elim (eqb (faultOf s r) 0) [
-        | true ↦ readFrom n b next (declare s r) (withRow rows r at)
-        | false ↦ record { number = faultOf s r; scheme = s; rows = rows }
-      ]
-    ]
+-- what the records before a position make: the scheme, and the positions of the rows among them
+pub record Held : Type 0 where
+  pub scheme : Scheme
+  pub rows : List ℕ
 
--- the records from the start on
+abbrev pub nothingHeld : Held
+nothingHeld = record { scheme = nothingDeclared; rows = [] }
+
+-- the rules that the records of a book are walked by. No record is the last: a book is read to the end of its bytes
+abbrev pub bookRules : Rules Held
+bookRules = record {
+  allowed = ofBook;
+  fault = λ h r. faultOf (h .scheme) r;
+  taken = λ h r at. record { scheme = declare (h .scheme) r; rows = withRow (h .rows) r at };
+  isLast = λ r. false;
+  unended = 0;
+}
+
+abbrev pub outcomeOf : Stop Held → Outcome
+outcomeOf w = record { number = w .number; scheme = w .state .scheme; rows = w .state .rows }
+
+-- the records from the start on, to "the earliest faulty record" or the end
 unfoldable pub records : List ℕ → Outcome
-records b = readFrom (suc (length b)) b 0 nothingDeclared []
+records b = outcomeOf (walk bookRules b nothingHeld)
 
 -- what the code has of them
 unfoldable pub walkedOf : Outcome → Walked

@@ -11,6 +11,7 @@ use lib.ListN.{length}
 use Rattle.sets.specs.Sets.{_∈_, _⊆_, rank}
 use Rattle.reduction.specs.Kept.{acyclic}
 use Rattle.records.specs.Reader.{readAt}
+use Rattle.records.specs.Checks.{First}
 use Rattle.records.specs.declared.Record.{Record}
 use Rattle.records.specs.declared.Reading.the-variants.{Found}
 use Rattle.relation.specs.BookRows as BookRows
@@ -24,7 +25,7 @@ use Rattle.book.specs.Faults.{faultOf}
 use Rattle.book.specs.Declaring.{nothingDeclared}
 use Rattle.book.specs.Reading.{Outcome, read}
 use Rattle.book.specs.Accepting.{Accepted, Faulty, AtLast, Stops}
-use Rattle.book.specs.Conditions.{First, conditions}
+use Rattle.book.specs.Conditions.{conditions}
 use Rattle.book.specs.WellFormed.{WellFormed}
 use Rattle.book.specs.TablesOf as TablesOf
 use Rattle.book.specs.TablesOf.{tablesOf, InRange}

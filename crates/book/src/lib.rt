@@ -5,11 +5,13 @@ ghost use Prim.Native.Nat.{_<_, _≤_};
 ghost use lib.ListN.{length, drop};
 ghost use Rattle.sets.specs.Sets.{count};
 ghost use Rattle.scheme.specs.OfScheme.{maximalOf};
-ghost use Rattle.book.specs.Faults.{firstOf, someNonZero, someOutside, wrongCells, SixAtMost, rowChecks};
+ghost use Rattle.records.specs.Checks.{firstOf};
+ghost use Rattle.records.specs.Walking.{shortNumber};
+ghost use Rattle.book.specs.Faults.{ofBook, someNonZero, someOutside, wrongCells, SixAtMost, rowChecks};
 ghost use Rattle.book.specs.Faults.{maximalChecks, faultOf};
 ghost use Rattle.book.specs.Declaring.{nothingDeclared, withAttribute, withObject, withDependency, withDeclared};
 ghost use Rattle.book.specs.Declaring.{withRemoved, declare};
-ghost use Rattle.book.specs.Reading.{isRow, shortFault, stopNumber, records, walkedOf, lastNumber, lastFault};
+ghost use Rattle.book.specs.Reading.{isRow, stopNumber, records, walkedOf, lastNumber, lastFault};
 ghost use Rattle.book.specs.Reading.{read, bookWith, bookOf, stored};
 use records::Reading;
 use records::Record;
@@ -289,7 +291,7 @@ fn is_row(r: Record) -> bool
 
 // The fault of a body that is cut short, by its kind.
 fn short_fault(kind: u8) -> u8
-    ensures { λ r. ⌜ r ≡ shortFault kind ⌝ }
+    ensures { λ r. ⌜ r ≡ shortNumber ofBook kind ⌝ }
 {
     if 1 <= kind && kind <= 6 { 3 } else { 2 }
 }

@@ -11,6 +11,8 @@ use Rattle.values.specs.Values.{inRange}
 use Rattle.records.specs.Fields.{bytes, value, field}
 use Rattle.records.specs.Records.{isKind, bodyLengths, bodyLength, kindOf, bytesOf, bytesOfAll}
 use Rattle.records.specs.Reader.{bodies, recordOf, readFront, readAt}
+use Rattle.records.specs.Checks.{firstOf}
+use Rattle.records.specs.Walking.{shortNumber, walkFrom, walk}
 use Rattle.records.specs.declared.Record.{Record}
 use Rattle.records.specs.declared.Record.the-variants.{Attribute, Object, Dependency}
 use Rattle.reduction.specs.Kept.{union, around, someHolds, removable, stays, staying, settle, left, acyclic}
@@ -20,11 +22,11 @@ use Rattle.scheme.specs.Dependencies.{pass, passes, closure}
 use Rattle.scheme.specs.Growing.{familyOf, attributesOf, joins, holding, rounds, grown}
 use Rattle.scheme.specs.MaximalObjects.{computed, isOne, removing, adding, maximalObjects, someUnmatched, someCyclic}
 use Rattle.scheme.specs.OfScheme.{pairs, computedOf, maximalOf, unmatchedOf, cyclicOf}
-use Rattle.book.specs.Faults.{ofBook, firstOf, someNonZero, someOutside, wrongCells, rowChecks, maximalChecks, checks}
+use Rattle.book.specs.Faults.{ofBook, someNonZero, someOutside, wrongCells, rowChecks, maximalChecks, checks}
 use Rattle.book.specs.Faults.{faultOf}
 use Rattle.book.specs.Declaring.{nothingDeclared, withAttribute, withObject, withDependency, withDeclared, withRemoved}
 use Rattle.book.specs.Declaring.{declare}
-use Rattle.book.specs.Reading.{Outcome, isRow, withRow, shortFault, readFrom, records, lastNumber, lastFault, afterLast}
+use Rattle.book.specs.Reading.{Outcome, isRow, withRow, records, lastNumber, lastFault, afterLast}
 use Rattle.book.specs.Reading.{read}
 use Rattle.book.specs.Reading.{maximalsOf}
 use Rattle.book.proofs.Examples.{survey, ring}
@@ -63,9 +65,9 @@ starred =
     ∷ []
 
 pub starred-hold : map (λ t. t .gives) starred ≡ map (λ t. t .says) starred
-unfolding starred banking sizes survey ring read afterLast lastFault lastNumber records readFrom shortFault withRow
-    isRow maximalsOf declare withRemoved withDeclared withDependency withObject withAttribute nothingDeclared faultOf
-    checks
+unfolding starred banking sizes survey ring read afterLast lastFault lastNumber records walk walkFrom shortNumber
+    withRow isRow maximalsOf declare withRemoved withDeclared withDependency withObject withAttribute nothingDeclared
+    faultOf checks
     maximalChecks rowChecks wrongCells someOutside someNonZero firstOf ofBook cyclicOf unmatchedOf maximalOf computedOf
     pairs someCyclic someUnmatched maximalObjects adding removing isOne computed grown rounds holding joins attributesOf
     familyOf closure passes pass cellOf readAt readFront recordOf bodies bytesOfAll bytesOf kindOf bodyLength

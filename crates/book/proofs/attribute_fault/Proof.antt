@@ -5,7 +5,7 @@ use Rattle.sets.specs.Sets.{has}
 use borrow.Author.Tests.{lt-ltb, le-ltb}
 use Rattle.sets.proofs.Tests.{or-left, or-right, or-no}
 use Rattle.book.specs.Faults.{checks, faultOf}
-use Rattle.book.proofs.Faults.{first-yes, first-no, first-none, tested-member}
+use Rattle.records.proofs.Checks.{first-yes, first-no, first-none, tested-member}
 use borrow.Author.Needs.{needs}
 use Rattle.book.proofs.attribute_fault.Statement.{statement}
 use Rattle.book.proofs.attribute_fault.Tie as tie

@@ -1,7 +1,7 @@
 -- `book::dependency_fault` meets its contract: each way out is the first check of kind 3 that holds. Assumes nothing.
 use mathlib.Core.Bool.{not}
 use Rattle.sets.specs.Sets.{isEmpty, within}
-use Rattle.book.proofs.Faults.{first-yes, first-no, first-none, tested, tested-not}
+use Rattle.records.proofs.Checks.{first-yes, first-no, first-none, tested, tested-not}
 use borrow.Author.Tests.{le-leb, lt-leb}
 use Rattle.sets.proofs.Tests.{or-left, or-right, or-no}
 use Rattle.book.specs.Faults.{checks, faultOf}

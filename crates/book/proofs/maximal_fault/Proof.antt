@@ -1,6 +1,6 @@
 -- `book::maximal_fault` meets its contract: each way out is the first check of kinds 5 and 6 that holds. Assumes
 -- nothing.
-use Rattle.book.proofs.Faults.{first-yes, first-no, first-none, tested, tested-not}
+use Rattle.records.proofs.Checks.{first-yes, first-no, first-none, tested, tested-not}
 use borrow.Author.Tests.{le-leb, lt-leb}
 use Rattle.book.specs.Faults.{maximalChecks}
 use borrow.Author.Needs.{needs}

@@ -2,8 +2,8 @@
 use lib.Dec.{ltb}
 use mathlib.Core.Bool.{_||_}
 use Rattle.sets.specs.Sets.{isEmpty, count}
-use Rattle.book.proofs.Faults.{first-yes, first-no, first-none, tested, tested-member, tested-not, over-counted}
-use Rattle.book.proofs.Faults.{under-counted}
+use Rattle.records.proofs.Checks.{first-yes, first-no, first-none, tested, tested-member, tested-not}
+use Rattle.book.proofs.Faults.{over-counted, under-counted}
 use borrow.Author.Tests.{lt-ltb, le-ltb}
 use Rattle.sets.proofs.Tests.{or-left, or-right, or-no}
 use Rattle.book.specs.Faults.{checks, faultOf}

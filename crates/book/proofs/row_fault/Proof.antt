@@ -1,7 +1,7 @@
 -- `book::row_fault` meets its contract: each way out is the first check of a row that holds. Assumes nothing.
 use borrow.Author.Tests.{lt-ltb, le-ltb}
 use Rattle.book.specs.Faults.{rowChecks}
-use Rattle.book.proofs.Faults.{first-yes, first-no, first-none, tested, tested-absent}
+use Rattle.records.proofs.Checks.{first-yes, first-no, first-none, tested, tested-absent}
 use borrow.Author.Needs.{needs}
 use Rattle.book.proofs.row_fault.Statement.{statement}
 use Rattle.book.proofs.row_fault.Tie as tie

@@ -3,7 +3,7 @@
 use Prim.Native.Nat.{_-_}
 use mathlib.Core.Logic.{⊎-elim}
 use native.Mathlib.Omega.{arith}
-use Rattle.book.proofs.Faults.{tested}
+use Rattle.records.proofs.Checks.{tested}
 use Rattle.book.proofs.Cells.{InsideSoFar, inside-start, place-in-row, outside-here, inside-with, inside-past}
 use Rattle.book.proofs.Cells.{inside-end}
 use borrow.Author.Needs.{needs}

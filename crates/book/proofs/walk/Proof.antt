@@ -6,7 +6,7 @@ use mathlib.Core.Logic.{⊎-elim}
 use native.Mathlib.Omega.{arith}
 use lib.ListN.{length}
 use Rattle.records.proofs.Reader.{found-after, whole-readAt}
-use Rattle.book.proofs.Faults.{tested}
+use Rattle.records.proofs.Checks.{tested}
 use Rattle.book.proofs.Walking.{Walking, walking-start, walking-same, walking-inside, walking-rows, walking-six}
 use Rattle.book.proofs.Walking.{walking-stored, walking-full, walking-other, walking-as, walking-unread}
 use Rattle.book.proofs.Walking.{walking-faulty}
