@@ -1,0 +1,2 @@
+-- The lemmas and theorems of `query`, in the order in which they use each other. Assumes nothing.
+pub mod Conditions
