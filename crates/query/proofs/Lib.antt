@@ -1,2 +1,4 @@
 -- The lemmas and theorems of `query`, in the order in which they use each other. Assumes nothing.
 pub mod Conditions
+pub mod Names
+pub mod Fits
