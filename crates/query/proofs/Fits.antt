@@ -55,7 +55,7 @@ unfolding namesOf
 names-one-more = each-one-more nameOf namesOf (record { none = refl; more = λ r rs. refl })
 
 -- the end of the query asks nothing
-pub items-at-end : (rs : List Record) → itemsOf (rs ++ End ∷ []) ≡ itemsOf rs
+items-at-end : (rs : List Record) → itemsOf (rs ++ End ∷ []) ≡ itemsOf rs
 unfolding itemOf
 items-at-end rs = items-one-more rs End ∙ append-nil (itemsOf rs)
 

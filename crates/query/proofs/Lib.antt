@@ -2,3 +2,4 @@
 pub mod Conditions
 pub mod Names
 pub mod Fits
+pub mod Whole
