@@ -3,3 +3,4 @@ pub mod Conditions
 pub mod Names
 pub mod Fits
 pub mod Whole
+pub mod Outcomes
