@@ -4,3 +4,4 @@ pub mod Names
 pub mod Fits
 pub mod Whole
 pub mod Outcomes
+pub mod Theorems

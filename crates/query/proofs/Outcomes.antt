@@ -2,13 +2,13 @@
 -- In order: accepted records of a walk, after a walk, the query, where its number comes from, which numbers there are.
 -- Assumes nothing.
 use mathlib.Core.Path.{_≡_, refl, sym, ap, _∙_, subst}
-use mathlib.Core.Bool.{Bool, true, false}
+use mathlib.Core.Bool.{true, false}
 use mathlib.Core.Logic.{_⊎_, inl, inr, ⊎-elim}
 use mathlib.Core.List.{List, [], _∷_, _++_}
 use Prim.Native.Nat.{ℕ, _≤_, _<_}
 use native.Mathlib.Omega.{arith}
 use borrow.Author.Tests.{eq-eqb, ne-eqb, lt-ltb, le-ltb}
-use lib.Dec.{eqb, ltb}
+use lib.Dec.{eqb}
 use lib.ListN.{length}
 use Rattle.sets.proofs.Tests.{yes-no}
 use Rattle.sets.proofs.Numbers.{eq-or-ne, lt-or-le}
@@ -23,7 +23,7 @@ use Rattle.records.specs.declared.Reading.the-variants.{Found}
 use Rattle.records.proofs.Walking.{walk-stops, stops-walk}
 use Rattle.scheme.specs.declared.Scheme.{Scheme}
 use Rattle.query.specs.Asking.{itemsOf, comparisonsOf, askedOf}
-use Rattle.query.specs.Faults.{ofQuery, checks, faultOf}
+use Rattle.query.specs.Faults.{checks, faultOf}
 use Rattle.query.specs.Reading.{isEnd, queryRules, walkQuery, wholeNumber, Outcome, refusedWith, atEnd, read}
 use Rattle.query.specs.Accepting.{OfWhole, Accepted, Faulty, StopsWith, faulty, unended, refused, answered}
 use Rattle.query.specs.Statements.{FaultyRecord, Unended, Ended}
@@ -118,7 +118,7 @@ module _ (s : Scheme) (Ms b : List ℕ) where
       ∙ ap (λ (x : Record). atEnd (wholeNumber s Ms (askedOf (st ++ x ∷ []))) (st ++ x ∷ []) next) q))
       (at-end-stops (walk-accepted s a) (subst (λ (x : Record). readAt b at ≡ Found x next) q e))
 
--- ---- the query
+  -- ---- the query
 
   pub read-over : 65536 < length b → read s Ms b ≡ refusedWith 1 []
   unfolding read
@@ -162,3 +162,146 @@ module _ (s : Scheme) (Ms b : List ℕ) where
           ∙ end-fault n (rs ++ End ∷ []) next d
       by (answered {rs} {at} {next} a e w) =
           walk-at-end a e ∙ end-good (wholeNumber s Ms (askedOf (rs ++ End ∷ []))) (rs ++ End ∷ []) next (at-end-whole s Ms a w)
+
+-- ---- where its number comes from
+
+module _ (s : Scheme) (Ms b : List ℕ) where
+  -- a faulty record, the end of the bytes, or the whole query
+  From : ℕ → Type 0
+  From n = FaultyRecord s b n ⊎ (((n ≡ 3) × Unended s b) ⊎ Ended s Ms b n)
+
+  stops-from : {o : Outcome} → StopsWith s Ms b o → From (o .number)
+  unfolding From
+  stops-from (faulty {rs} {at} a f) = inl (record { passed = rs; at = at; accepted = a; faulty = f })
+  stops-from (unended {rs} {at} a l) = inr (inl (refl, record { passed = rs; at = at; accepted = a; ended = l }))
+  stops-from (refused {rs} {at} {next} a e w d) =
+      inr (inr (record { passed = rs; at = at; next = next; accepted = a; atKindTen = e; whole = w }))
+  stops-from (answered {rs} {at} {next} a e w) =
+      inr (inr (record { passed = rs; at = at; next = next; accepted = a; atKindTen = e; whole = w }))
+
+  module _ (h : length b ≤ 65536) where
+    -- what stops the reading gives its number
+    number-stops : {o : Outcome} → StopsWith s Ms b o → read s Ms b .number ≡ o .number
+    number-stops w = ap (λ (o : Outcome). o .number) (stops-read s Ms b h w)
+
+    pub faulty-number : {n : ℕ} → FaultyRecord s b n → read s Ms b .number ≡ n
+    faulty-number f = number-stops (faulty (f .accepted) (f .faulty))
+
+    pub unended-number : Unended s b → read s Ms b .number ≡ 3
+    unended-number u = number-stops (unended (u .accepted) (u .ended))
+
+    pub ended-number : {n : ℕ} → Ended s Ms b n → read s Ms b .number ≡ n
+    ended-number {n} w =
+        ⊎-elim
+        (λ z. number-stops (answered (w .accepted) (w .atKindTen) (subst (OfWhole s Ms (w .passed)) z (w .whole))) ∙ sym z)
+        (λ d. number-stops (refused (w .accepted) (w .atKindTen) (w .whole) d)) (eq-or-ne n 0)
+
+-- ---- which numbers there are
+
+abbrev OfRecord : ℕ → Type 0
+OfRecord n = (n ≡ 2) ⊎ ((n ≡ 4) ⊎ ((n ≡ 5) ⊎ ((n ≡ 7) ⊎ (n ≡ 11))))
+
+abbrev OfQuery : ℕ → Type 0
+OfQuery n = (n ≡ 0) ⊎ ((n ≡ 10) ⊎ (n ≡ 12))
+
+-- a number of a whole query is none of a record
+not-of-query : {n : ℕ} → FaultNumber n → OfQuery n → ⊥
+not-of-query f (inl z) = no-zero f z
+not-of-query f (inr (inl z)) = ⊎-elim (λ p. absurd (omega arith)) (λ p. absurd (omega arith)) (fault-splits f)
+not-of-query f (inr (inr z)) = ⊎-elim (λ p. absurd (omega arith)) (λ p. absurd (omega arith)) (fault-splits f)
+
+not-three : {n : ℕ} → OfRecord n → n ≡ 3 → ⊥
+not-three (inl z) t = absurd (omega arith)
+not-three (inr (inl z)) t = absurd (omega arith)
+not-three (inr (inr (inl z))) t = absurd (omega arith)
+not-three (inr (inr (inr (inl z)))) t = absurd (omega arith)
+not-three (inr (inr (inr (inr z)))) t = absurd (omega arith)
+
+of-record-fault : {n : ℕ} → OfRecord n → FaultNumber n
+of-record-fault (inl z) = subst FaultNumber (sym z) two
+of-record-fault (inr (inl z)) = subst FaultNumber (sym z) four
+of-record-fault (inr (inr (inl z))) = subst FaultNumber (sym z) five
+of-record-fault (inr (inr (inr (inl z)))) = subst FaultNumber (sym z) seven
+of-record-fault (inr (inr (inr (inr z)))) = subst FaultNumber (sym z) eleven
+
+-- none is 1
+fault-not-one : {n : ℕ} → FaultNumber n → n ≡ 1 → ⊥
+fault-not-one f z = ⊎-elim (λ p. absurd (omega arith)) (λ p. absurd (omega arith)) (fault-splits f)
+
+pub record-not-one : {n : ℕ} → OfRecord n → n ≡ 1 → ⊥
+record-not-one c z = fault-not-one (of-record-fault c) z
+
+pub query-not-one : {n : ℕ} → OfQuery n → n ≡ 1 → ⊥
+query-not-one (inl c) z = absurd (omega arith)
+query-not-one (inr (inl c)) z = absurd (omega arith)
+query-not-one (inr (inr c)) z = absurd (omega arith)
+
+-- the numbers of a query that is read
+abbrev OneOf : ℕ → Type 0
+OneOf n = (n ≤ 5) ⊎ ((n ≡ 7) ⊎ ((n ≡ 10) ⊎ ((n ≡ 11) ⊎ (n ≡ 12))))
+
+fault-one-of : {n : ℕ} → FaultNumber n → OneOf n
+fault-one-of two = inl (omega arith)
+fault-one-of three = inl (omega arith)
+fault-one-of four = inl (omega arith)
+fault-one-of five = inl (omega arith)
+fault-one-of seven = inr (inl refl)
+fault-one-of eleven = inr (inr (inr (inl refl)))
+
+query-one-of : {n : ℕ} → OfQuery n → OneOf n
+query-one-of (inl z) = inl (omega arith)
+query-one-of (inr (inl z)) = inr (inr (inl z))
+query-one-of (inr (inr z)) = inr (inr (inr (inr z)))
+
+faulty-record-number : {s : Scheme} {b : List ℕ} {n : ℕ} → FaultyRecord s b n → FaultNumber n
+faulty-record-number {s} f = faulty-number-is s (f .passed) (f .faulty)
+
+module _ (s : Scheme) (Ms b : List ℕ) where
+  pub number-over : 65536 < length b → read s Ms b .number ≡ 1
+  number-over h = ap (λ (o : Outcome). o .number) (read-over s Ms b h)
+
+  -- a number other than 1 comes from a query that is not too long
+  pub number-within : (read s Ms b .number ≡ 1 → ⊥) → length b ≤ 65536
+  number-within d = ⊎-elim (λ h. absurd (d (number-over h))) (λ h. h) (lt-or-le 65536 (length b))
+
+  module _ (h : length b ≤ 65536) where
+    number-from : {n : ℕ} → read s Ms b .number ≡ n → From s Ms b n
+    number-from e = subst (From s Ms b) e (stops-from s Ms b (read-stops s Ms b h))
+
+    -- it is a fault's, or the whole query's
+    number-kinds : {n : ℕ} → read s Ms b .number ≡ n → FaultNumber n ⊎ OfQuery n
+    unfolding From
+    number-kinds e =
+        ⊎-elim (λ f. inl (faulty-record-number f))
+        (λ p. ⊎-elim (λ u. inl (subst FaultNumber (sym (u .0)) three)) (λ w. inr (whole-numbers (w .whole))) p)
+        (number-from e)
+
+    pub number-of-record : {n : ℕ} → OfRecord n → read s Ms b .number ≡ n → FaultyRecord s b n
+    unfolding From
+    number-of-record c e =
+        ⊎-elim (λ f. f)
+        (λ p. ⊎-elim (λ u. absurd (not-three c (u .0)))
+        (λ w. absurd (not-of-query (of-record-fault c) (whole-numbers (w .whole)))) p)
+        (number-from e)
+
+    pub number-three : read s Ms b .number ≡ 3 → FaultyRecord s b 3 ⊎ Unended s b
+    unfolding From
+    number-three e =
+        ⊎-elim (λ f. inl f)
+        (λ p. ⊎-elim (λ u. inr (u .1)) (λ w. absurd (not-of-query three (whole-numbers (w .whole)))) p)
+        (number-from e)
+
+    pub number-of-query : {n : ℕ} → OfQuery n → read s Ms b .number ≡ n → Ended s Ms b n
+    unfolding From
+    number-of-query c e =
+        ⊎-elim (λ f. absurd (not-of-query (faulty-record-number f) c))
+        (λ p. ⊎-elim (λ u. absurd (not-of-query (subst FaultNumber (sym (u .0)) three) c)) (λ w. w) p)
+        (number-from e)
+
+  pub number-not-one : length b ≤ 65536 → read s Ms b .number ≡ 1 → ⊥
+  number-not-one h e = ⊎-elim (λ f. fault-not-one f refl) (λ q. query-not-one q refl) (number-kinds h e)
+
+  pub number-one-of : {n : ℕ} → read s Ms b .number ≡ n → OneOf n
+  number-one-of {n} e =
+      ⊎-elim (λ h. inl (omega (arith, number-over h)))
+      (λ h. ⊎-elim (λ f. fault-one-of f) (λ q. query-one-of q) (number-kinds h e)) (lt-or-le 65536 (length b))
