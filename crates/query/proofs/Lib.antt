@@ -5,3 +5,4 @@ pub mod Fits
 pub mod Whole
 pub mod Outcomes
 pub mod Theorems
+pub mod Examples
