@@ -169,23 +169,28 @@ trials =
     ∷ refuses (query (Item 0 0 ∷ CompareConstant 0 2 0 36000 ∷ [])) 5
     ∷ refuses (query (Item 0 0 ∷ CompareConstant 0 2 2 36000 ∷ [])) 11
     ∷ answers (query (Item 0 0 ∷ CompareConstant 0 2 1 35999 ∷ CompareConstant 0 0 0 36000 ∷ [])) 20
-    -- "attribute or object not declared 7"
+    -- "attribute or object not declared 7", before 11
     ∷ refuses (query (Item 0 31 ∷ [])) 7
-    ∷ refuses (query (CompareTwo 0 0 0 0 31 ∷ [])) 7
-    ∷ refuses (query (CompareTwo 0 31 0 0 0 ∷ [])) 7
+    ∷ refuses (query (CompareTwo 0 0 5 0 31 ∷ [])) 7
+    ∷ refuses (query (CompareTwo 0 31 5 0 0 ∷ [])) 7
     ∷ refuses (query (CompareConstant 0 31 5 9 ∷ [])) 7
     -- "field outside its range .. 5", before 7: "variables 0 to 3"; attributes 0 to 31; an operator "one over 5 is 5"
     ∷ refuses (query (Item 4 31 ∷ [])) 5
     ∷ refuses (query (Item 0 32 ∷ [])) 5
+    ∷ refuses (query (CompareTwo 4 31 0 0 0 ∷ [])) 5
+    ∷ refuses (query (CompareTwo 0 32 0 0 31 ∷ [])) 5
     ∷ refuses (query (CompareTwo 0 31 0 4 0 ∷ [])) 5
     ∷ refuses (query (CompareTwo 0 31 0 0 32 ∷ [])) 5
     ∷ refuses (query (CompareTwo 0 31 6 0 0 ∷ [])) 5
     ∷ refuses (query (CompareConstant 0 31 6 0 ∷ [])) 5
     ∷ refuses (query (CompareConstant 4 31 0 0 ∷ [])) 5
+    ∷ refuses (query (CompareConstant 0 32 0 0 ∷ [])) 5
+    ∷ answers (query (Item 3 0 ∷ CompareTwo 3 1 5 3 1 ∷ CompareConstant 3 1 0 0 ∷ [])) 18
     -- "one more than its bound 4", before 5: "items 1 to 8; comparisons 0 to 16 in all"
     ∷ answers (query eightItems) 25
     ∷ refuses (query (eightItems ++ Item 4 0 ∷ [])) 4
-    ∷ answers (query (Item 0 0 ∷ eightOfTwo ++ eightWithConstant)) 116
+    ∷ answers (query (eightOfTwo ++ eightWithConstant ++ Item 0 0 ∷ [])) 116
+    ∷ answers (query (eightItems ++ eightWithConstant ++ eightOfTwo)) 137
     ∷ refuses (query (eightOfTwo ++ eightWithConstant ++ CompareTwo 4 0 0 0 0 ∷ [])) 4
     ∷ refuses (query (eightOfTwo ++ eightWithConstant ++ CompareConstant 4 0 0 0 ∷ [])) 4
     -- "the earliest faulty record"
