@@ -2,3 +2,10 @@
 pub mod Faulting
 pub mod Asking
 pub mod Loops
+pub mod Conditions
+pub mod Names
+pub mod Fits
+pub mod Whole
+pub mod Outcomes
+pub mod Theorems
+pub mod Examples

@@ -1,0 +1,147 @@
+-- The tests of the checks say what the conditions say, kind by kind; so the fault of a record is the number of the
+-- first condition that holds.
+-- In order: each kind, the first, the numbers of faults, kinds of a query.
+-- Assumes nothing.
+use mathlib.Core.Path.{_≡_, refl, sym, subst}
+use mathlib.Core.Bool.{false}
+use mathlib.Core.Logic.{_⊎_, inl, inr}
+use mathlib.Core.List.{List, [], _∷_}
+use Prim.Native.Nat.{ℕ, _≤_}
+use native.Mathlib.Omega.{arith}
+use borrow.Author.Tests.{leb-true, le-leb}
+use lib.Dec.{leb}
+use lib.ListN.{length}
+use Rattle.sets.proofs.Tests.{yes-no, not-yes, and-yes, yes-and}
+use Rattle.values.specs.Values.{inRange}
+use Rattle.values.specs.Operators.{allows}
+use Rattle.records.specs.Checks.{firstOf, Condition, First}
+use Rattle.records.specs.Records.{isKind, kindOf}
+use Rattle.records.specs.Walking.{Sound}
+use Rattle.records.specs.declared.Record.{Record}
+use Rattle.records.specs.declared.Record.the-variants.{Attribute, Object, Dependency, Row, Declared, Removed, Item}
+use Rattle.records.specs.declared.Record.the-variants.{CompareTwo, CompareConstant, End}
+use Rattle.records.proofs.Checks.{Agree, ended, next, first-agrees, first-unique, same-always, same-not, same-or}
+use Rattle.records.proofs.Checks.{same-lt, same-le, same-absent}
+use Rattle.scheme.specs.declared.Scheme.{Scheme}
+use Rattle.query.specs.Asking.{itemsOf, comparisonsOf}
+use Rattle.query.specs.Faults.{ofQuery, kindIn, checks, faultOf}
+use Rattle.query.specs.Conditions.{conditions}
+use Rattle.query.specs.Reading.{queryRules}
+
+-- ---- each kind
+
+agrees : (s : Scheme) (items comparisons : ℕ) (r : Record)
+    → Agree (checks s items comparisons r) (conditions s items comparisons r)
+unfolding checks conditions
+agrees s items comparisons (Attribute id kind) = next same-always ended
+agrees s items comparisons (Object number set) = next same-always ended
+agrees s items comparisons (Dependency left right) = next same-always ended
+agrees s items comparisons (Row object c0 c1 c2 c3 c4 c5) = next same-always ended
+agrees s items comparisons (Declared set) = next same-always ended
+agrees s items comparisons (Removed set) = next same-always ended
+agrees s items comparisons (Item v a) =
+    next (same-le 8 items) (next (same-or (same-lt 3 v) (same-lt 31 a)) (next (same-absent (s .attributes) a) ended))
+agrees s items comparisons (CompareTwo v a operator v2 a2) =
+    next (same-le 16 comparisons)
+    (next (same-or (same-lt 3 v) (same-or (same-lt 31 a) (same-or (same-lt 5 operator)
+    (same-or (same-lt 3 v2) (same-lt 31 a2)))))
+    (next (same-or (same-absent (s .attributes) a) (same-absent (s .attributes) a2))
+    (next (same-not (allows operator (kindIn s a) (kindIn s a2))) ended)))
+agrees s items comparisons (CompareConstant v a operator cell) =
+    next (same-le 16 comparisons)
+    (next (same-or (same-lt 3 v) (same-or (same-lt 31 a) (same-lt 5 operator)))
+    (next (same-absent (s .attributes) a)
+    (next (same-not (allows operator (kindIn s a) (kindIn s a)))
+    (next (same-not (inRange (kindIn s a) cell)) ended))))
+agrees s items comparisons End = ended
+
+-- ---- the first
+
+pub fault-first : (s : Scheme) (items comparisons : ℕ) (r : Record)
+    → First (conditions s items comparisons r) (faultOf s items comparisons r)
+unfolding faultOf
+fault-first s items comparisons r = first-agrees (agrees s items comparisons r)
+
+pub first-fault : (s : Scheme) (items comparisons : ℕ) (r : Record) {n : ℕ} → First (conditions s items comparisons r) n
+    → faultOf s items comparisons r ≡ n
+first-fault s items comparisons r f =
+    first-unique (conditions s items comparisons r) (fault-first s items comparisons r) f
+
+-- ---- the numbers of faults: "for each record 2, 3, 4, 5, 7 as above", and 11
+
+pub data FaultNumber : ℕ → Type 0 where
+  two : FaultNumber 2
+  three : FaultNumber 3
+  four : FaultNumber 4
+  five : FaultNumber 5
+  seven : FaultNumber 7
+  eleven : FaultNumber 11
+
+-- each condition gives one of them
+Numbered : List Condition → Type 0
+Numbered [] = Unit {0}
+Numbered (c ∷ cs) = FaultNumber (c .number) × Numbered cs
+
+first-numbered : (cs : List Condition) (n : ℕ) → Numbered cs → First cs n → (n ≡ 0 → ⊥) → FaultNumber n
+unfolding First Numbered
+first-numbered [] n m f d = absurd (d f)
+first-numbered (c ∷ cs) n m (inl f) d = subst FaultNumber (sym (f .1)) (m .0)
+first-numbered (c ∷ cs) n m (inr f) d = first-numbered cs n (m .1) (f .1) d
+
+numbered : (s : Scheme) (items comparisons : ℕ) (r : Record) → Numbered (conditions s items comparisons r)
+unfolding Numbered conditions
+numbered s items comparisons (Attribute id kind) = (two, tt)
+numbered s items comparisons (Object number set) = (two, tt)
+numbered s items comparisons (Dependency left right) = (two, tt)
+numbered s items comparisons (Row object c0 c1 c2 c3 c4 c5) = (two, tt)
+numbered s items comparisons (Declared set) = (two, tt)
+numbered s items comparisons (Removed set) = (two, tt)
+numbered s items comparisons (Item v a) = (four, (five, (seven, tt)))
+numbered s items comparisons (CompareTwo v a operator v2 a2) = (four, (five, (seven, (eleven, tt))))
+numbered s items comparisons (CompareConstant v a operator cell) = (four, (five, (seven, (eleven, (five, tt)))))
+numbered s items comparisons End = tt
+
+pub fault-number : (s : Scheme) (items comparisons : ℕ) (r : Record) → (faultOf s items comparisons r ≡ 0 → ⊥)
+    → FaultNumber (faultOf s items comparisons r)
+fault-number s items comparisons r d =
+    first-numbered (conditions s items comparisons r) (faultOf s items comparisons r) (numbered s items comparisons r)
+    (fault-first s items comparisons r) d
+
+pub fault-splits : {n : ℕ} → FaultNumber n → ((2 ≤ n) × (n ≤ 7)) ⊎ (n ≡ 11)
+fault-splits two = inl (omega arith)
+fault-splits three = inl (omega arith)
+fault-splits four = inl (omega arith)
+fault-splits five = inl (omega arith)
+fault-splits seven = inl (omega arith)
+fault-splits eleven = inr refl
+
+-- ---- kinds of a query
+
+-- a number that is no kind is none of a query
+no-kind-no-query : (k : ℕ) → isKind k ≡ false → ofQuery k ≡ false
+unfolding isKind ofQuery
+no-kind-no-query k e =
+    not-yes (λ y.
+    let p = yes-and (leb 7 k) (leb k 10) y in
+    yes-no (and-yes (le-leb 1 k (omega (arith, leb-true 7 k (p .0)))) (p .1)) e)
+
+-- a record of another kind has the fault 2
+fault-not-of-query : (s : Scheme) (items comparisons : ℕ) (r : Record) → ofQuery (kindOf r) ≡ false
+    → faultOf s items comparisons r ≡ 2
+unfolding kindOf ofQuery faultOf checks firstOf
+fault-not-of-query s items comparisons (Attribute id kind) e = refl
+fault-not-of-query s items comparisons (Object number set) e = refl
+fault-not-of-query s items comparisons (Dependency left right) e = refl
+fault-not-of-query s items comparisons (Row object c0 c1 c2 c3 c4 c5) e = refl
+fault-not-of-query s items comparisons (Declared set) e = refl
+fault-not-of-query s items comparisons (Removed set) e = refl
+fault-not-of-query s items comparisons (Item v a) e = absurd (yes-no refl e)
+fault-not-of-query s items comparisons (CompareTwo v a operator v2 a2) e = absurd (yes-no refl e)
+fault-not-of-query s items comparisons (CompareConstant v a operator cell) e = absurd (yes-no refl e)
+fault-not-of-query s items comparisons End e = absurd (yes-no refl e)
+
+pub query-sound : (s : Scheme) → Sound (queryRules s)
+query-sound s = record {
+  known = no-kind-no-query;
+  others = λ rs r e. fault-not-of-query s (length (itemsOf rs)) (length (comparisonsOf rs)) r e;
+}

@@ -1,0 +1,206 @@
+-- Worked examples: what reading gives beside what the paper says, in one list under one theorem.
+-- In order: the scheme of a book, a good query, comparisons, results, the trials.
+-- Assumes nothing.
+use mathlib.Core.Path.{_≡_, refl}
+use mathlib.Core.Bool.{true, false}
+use mathlib.Core.List.{List, [], _∷_, _++_, map, flatMap}
+use Prim.Native.Nat.{ℕ, _+_}
+use lib.ListN.{take, replicate}
+use Rattle.sets.specs.Sets.{bit, has, within, _∪_, single, isEmpty, members}
+use Rattle.values.specs.Values.{inRange}
+use Rattle.values.specs.Operators.{allows}
+use Rattle.reduction.specs.Kept.{union}
+use Rattle.records.specs.Checks.{firstOf}
+use Rattle.records.specs.Fields.{bytes, value, field}
+use Rattle.records.specs.Records.{isKind, bodyLengths, bodyLength, bytesOf, bytesOfAll}
+use Rattle.records.specs.Reader.{bodies, recordOf, readFront, readAt}
+use Rattle.records.specs.Walking.{shortNumber, walkFrom, walk}
+use Rattle.records.specs.declared.Record.{Record}
+use Rattle.records.specs.declared.Record.the-variants.{Attribute, Item, CompareTwo, CompareConstant, End}
+use Rattle.scheme.specs.declared.Scheme.{Scheme}
+use Rattle.scheme.specs.Growing.{familyOf, attributesOf}
+use Rattle.query.specs.declared.QueryItem.{QueryItem}
+use Rattle.query.specs.declared.Comparison.{Comparison}
+use Rattle.query.specs.declared.Asked.{Asked}
+use Rattle.query.specs.declared.Query.{Query}
+use Rattle.query.specs.Asking.{itemOf, itemsOf, comparisonOf, comparisonsOf, nameOf, namesOf, naming}
+use Rattle.query.specs.Asking.{attributesNamed, filled, askedOf}
+use Rattle.query.specs.Faults.{ofQuery, checks, faultOf}
+use Rattle.query.specs.Reading.{isEnd, walkQuery, containing, isNil, unconnected, someUnconnected, wholeNumber}
+use Rattle.query.specs.Reading.{atEnd, read, queryOf}
+
+-- ---- the scheme of a book: attributes 0 name, 1 length, 2 angle, 3 date, 4 length; objects 0 {0,1}, 1 {0,2}, 2 {3,4}
+
+unfoldable pub book : Scheme
+book = record {
+  kinds = 0 ∷ 1 ∷ 2 ∷ 3 ∷ 1 ∷ replicate 27 0;
+  attributes = 31;
+  sets = 3 ∷ 5 ∷ 24 ∷ replicate 29 0;
+  objects = 7;
+  left = replicate 64 0;
+  right = replicate 64 0;
+  dependencies = 0;
+  declared = replicate 8 0;
+  declarations = 0;
+  removed = replicate 8 0;
+  removals = 0;
+}
+
+-- its maximal objects: one of objects 0 and 1, one of object 2
+unfoldable pub maximals : List ℕ
+maximals = 3 ∷ 4 ∷ []
+
+-- ---- a good query: items, both kinds of comparison, and two variables
+
+unfoldable pub good : List Record
+good = Item 0 2 ∷ CompareTwo 0 1 3 1 4 ∷ Item 1 3 ∷ CompareConstant 1 3 5 12345 ∷ Item 0 0 ∷ []
+
+-- ---- comparisons: eight of each kind
+
+unfoldable pub eightOfTwo : List Record
+eightOfTwo =
+    CompareTwo 0 0 0 0 0 ∷ CompareTwo 0 0 0 0 0 ∷ CompareTwo 0 0 0 0 0 ∷ CompareTwo 0 0 0 0 0
+    ∷ CompareTwo 0 0 0 0 0 ∷ CompareTwo 0 0 0 0 0 ∷ CompareTwo 0 0 0 0 0 ∷ CompareTwo 0 0 0 0 0 ∷ []
+
+unfoldable pub eightWithConstant : List Record
+eightWithConstant =
+    CompareConstant 0 0 0 9 ∷ CompareConstant 0 0 0 9 ∷ CompareConstant 0 0 0 9 ∷ CompareConstant 0 0 0 9
+    ∷ CompareConstant 0 0 0 9 ∷ CompareConstant 0 0 0 9 ∷ CompareConstant 0 0 0 9 ∷ CompareConstant 0 0 0 9 ∷ []
+
+unfoldable pub eightItems : List Record
+eightItems = Item 0 0 ∷ Item 0 1 ∷ Item 0 2 ∷ Item 1 3 ∷ Item 1 4 ∷ Item 2 0 ∷ Item 3 0 ∷ Item 0 0 ∷ []
+
+-- ---- results
+
+unfoldable pub resultOf : Query → List ℕ
+resultOf q = q .refusal ∷ q .read ∷ []
+
+-- the number and the bytes read
+unfoldable pub result : List ℕ → List ℕ
+result b = resultOf (queryOf (read book maximals b))
+
+-- of records, with kind 10 behind them
+abbrev pub query : List Record → List ℕ
+query rs = result (bytesOfAll (rs ++ End ∷ []))
+
+abbrev pub unendedQuery : List Record → List ℕ
+unendedQuery rs = result (bytesOfAll rs)
+
+unfoldable pub fieldsOf : Comparison → List ℕ
+fieldsOf c =
+    c .variable ∷ c .attribute ∷ c .operator ∷ elim (c .constant) [ true ↦ 1 | false ↦ 0 ]
+    ∷ c .variable2 ∷ c .attribute2 ∷ c .cell ∷ []
+
+-- what is asked: the items and the comparisons, each with a place more, and the X of each variable
+unfoldable pub askedBy : Asked → List (List ℕ)
+askedBy q =
+    (q .retrieved ∷ q .compared ∷ [])
+    ∷ flatMap (λ (i : QueryItem). i .variable ∷ i .attribute ∷ []) (take (q .retrieved + 1) (q .items))
+    ∷ q .attributes
+    ∷ map fieldsOf (take (q .compared + 1) (q .comparisons))
+
+unfoldable pub asks : List Record → List (List ℕ)
+asks rs = askedBy (queryOf (read book maximals (bytesOfAll rs)) .asked)
+
+-- ---- the trials
+
+pub record Trial : Type 0 where
+  pub gives : List (List ℕ)
+  pub says : List (List ℕ)
+
+-- a query that is refused with a number: "0 query bytes read"
+abbrev pub refuses : List ℕ → ℕ → Trial
+refuses r n = record { gives = r ∷ []; says = (n ∷ 0 ∷ []) ∷ [] }
+
+-- a query that is answered, with the bytes read
+abbrev pub answers : List ℕ → ℕ → Trial
+answers r n = record { gives = r ∷ []; says = (0 ∷ n ∷ []) ∷ [] }
+
+unfoldable pub trials : List Trial
+trials =
+    answers (query good) 24
+    ∷ record {
+      gives = asks (good ++ End ∷ []);
+      says =
+          (3 ∷ 2 ∷ []) ∷ (0 ∷ 2 ∷ 1 ∷ 3 ∷ 0 ∷ 0 ∷ 0 ∷ 0 ∷ []) ∷ (7 ∷ 24 ∷ 0 ∷ 0 ∷ [])
+          ∷ (0 ∷ 1 ∷ 3 ∷ 0 ∷ 1 ∷ 4 ∷ 0 ∷ []) ∷ (1 ∷ 3 ∷ 5 ∷ 1 ∷ 0 ∷ 0 ∷ 12345 ∷ []) ∷ (0 ∷ 0 ∷ 0 ∷ 0 ∷ 0 ∷ 0 ∷ 0 ∷ []) ∷ [];
+    }
+    -- "a query ends at its first kind 10, and bytes after that aren't read"
+    ∷ answers (unendedQuery (Item 0 0 ∷ End ∷ Attribute 5 0 ∷ Item 4 31 ∷ [])) 4
+    ∷ answers (result (7 ∷ 3 ∷ 2 ∷ 10 ∷ 255 ∷ 7 ∷ [])) 4
+    -- "Only kind 10: 10."
+    ∷ refuses (query []) 10
+    -- comparisons alone, also where a variable is unconnected
+    ∷ refuses (query (CompareConstant 0 0 0 9 ∷ [])) 10
+    ∷ refuses (query (CompareTwo 0 1 2 0 4 ∷ [])) 10
+    -- "Some variable's X in no maximal object: 12."
+    ∷ refuses (query (Item 0 1 ∷ Item 0 3 ∷ [])) 12
+    ∷ refuses (query (Item 3 1 ∷ Item 3 3 ∷ [])) 12
+    ∷ answers (query (Item 0 1 ∷ Item 1 3 ∷ [])) 7
+    -- "No objects: an item on a declared attribute is 12.": there is no maximal object then
+    ∷ refuses (resultOf (queryOf (read book [] (bytesOfAll (Item 0 0 ∷ End ∷ []))))) 12
+    -- a variable named only in comparisons
+    ∷ refuses (query (Item 0 0 ∷ CompareTwo 1 1 2 1 4 ∷ [])) 12
+    ∷ refuses (query (Item 0 0 ∷ CompareTwo 0 1 2 0 4 ∷ [])) 12
+    ∷ refuses (query (Item 0 0 ∷ CompareConstant 2 1 2 5 ∷ CompareConstant 2 3 2 5 ∷ [])) 12
+    ∷ answers (query (Item 0 0 ∷ CompareTwo 1 1 2 2 4 ∷ [])) 10
+    -- "Bytes ending without kind 10: 3."
+    ∷ refuses (unendedQuery (Item 0 0 ∷ [])) 3
+    ∷ refuses (unendedQuery (Item 0 1 ∷ Item 0 3 ∷ [])) 3
+    ∷ refuses (unendedQuery good) 3
+    ∷ refuses (result []) 3
+    -- "kind not allowed 2"
+    ∷ refuses (query (Attribute 5 0 ∷ [])) 2
+    ∷ refuses (result (7 ∷ 0 ∷ 0 ∷ 1 ∷ [])) 2
+    ∷ refuses (result (7 ∷ 0 ∷ 0 ∷ 6 ∷ [])) 2
+    ∷ refuses (result (11 ∷ 10 ∷ [])) 2
+    ∷ refuses (result (0 ∷ 10 ∷ [])) 2
+    -- "body cut short 3"
+    ∷ refuses (result (7 ∷ 4 ∷ [])) 3
+    ∷ refuses (result (9 ∷ 0 ∷ 0 ∷ 0 ∷ 0 ∷ 0 ∷ 0 ∷ [])) 3
+    -- "allows 0 and 1 within names and within angles, all six within lengths and within dates, and none between
+    -- different kinds": 11
+    ∷ refuses (query (Item 0 0 ∷ CompareConstant 0 0 2 9 ∷ [])) 11
+    ∷ refuses (query (Item 0 0 ∷ CompareTwo 0 0 2 0 0 ∷ [])) 11
+    ∷ refuses (query (Item 0 0 ∷ CompareTwo 0 1 0 0 0 ∷ [])) 11
+    ∷ refuses (query (Item 0 0 ∷ CompareTwo 0 3 2 0 1 ∷ [])) 11
+    ∷ answers (query (Item 0 0 ∷ CompareTwo 0 0 1 0 0 ∷ CompareConstant 0 1 5 9 ∷ [])) 18
+    -- "an angle constant over 35,999 is then 5", after 11; of other kinds it is none
+    ∷ refuses (query (Item 0 0 ∷ CompareConstant 0 2 0 36000 ∷ [])) 5
+    ∷ refuses (query (Item 0 0 ∷ CompareConstant 0 2 2 36000 ∷ [])) 11
+    ∷ answers (query (Item 0 0 ∷ CompareConstant 0 2 1 35999 ∷ CompareConstant 0 0 0 36000 ∷ [])) 20
+    -- "attribute or object not declared 7", before 11
+    ∷ refuses (query (Item 0 31 ∷ [])) 7
+    ∷ refuses (query (CompareTwo 0 0 5 0 31 ∷ [])) 7
+    ∷ refuses (query (CompareTwo 0 31 5 0 0 ∷ [])) 7
+    ∷ refuses (query (CompareConstant 0 31 5 9 ∷ [])) 7
+    -- "field outside its range .. 5", before 7: "variables 0 to 3"; attributes 0 to 31; an operator "one over 5 is 5"
+    ∷ refuses (query (Item 4 31 ∷ [])) 5
+    ∷ refuses (query (Item 0 32 ∷ [])) 5
+    ∷ refuses (query (CompareTwo 4 31 0 0 0 ∷ [])) 5
+    ∷ refuses (query (CompareTwo 0 32 0 0 31 ∷ [])) 5
+    ∷ refuses (query (CompareTwo 0 31 0 4 0 ∷ [])) 5
+    ∷ refuses (query (CompareTwo 0 31 0 0 32 ∷ [])) 5
+    ∷ refuses (query (CompareTwo 0 31 6 0 0 ∷ [])) 5
+    ∷ refuses (query (CompareConstant 0 31 6 0 ∷ [])) 5
+    ∷ refuses (query (CompareConstant 4 31 0 0 ∷ [])) 5
+    ∷ refuses (query (CompareConstant 0 32 0 0 ∷ [])) 5
+    ∷ answers (query (Item 3 0 ∷ CompareTwo 3 1 5 3 1 ∷ CompareConstant 3 1 0 0 ∷ [])) 18
+    -- "one more than its bound 4", before 5: "items 1 to 8; comparisons 0 to 16 in all"
+    ∷ answers (query eightItems) 25
+    ∷ refuses (query (eightItems ++ Item 4 0 ∷ [])) 4
+    ∷ answers (query (eightOfTwo ++ eightWithConstant ++ Item 0 0 ∷ [])) 116
+    ∷ answers (query (eightItems ++ eightWithConstant ++ eightOfTwo)) 137
+    ∷ refuses (query (eightOfTwo ++ eightWithConstant ++ CompareTwo 4 0 0 0 0 ∷ [])) 4
+    ∷ refuses (query (eightOfTwo ++ eightWithConstant ++ CompareConstant 4 0 0 0 ∷ [])) 4
+    -- "the earliest faulty record"
+    ∷ refuses (query (Item 0 31 ∷ Attribute 5 0 ∷ [])) 7
+    ∷ []
+
+pub trials-hold : map (λ t. t .gives) trials ≡ map (λ t. t .says) trials
+unfolding trials book maximals good eightOfTwo eightWithConstant eightItems resultOf result fieldsOf askedBy asks flatMap
+    queryOf read atEnd wholeNumber someUnconnected unconnected isNil containing walkQuery isEnd faultOf checks ofQuery
+    askedOf filled attributesNamed naming namesOf nameOf comparisonsOf comparisonOf itemsOf itemOf shortNumber walkFrom
+    walk firstOf readAt readFront recordOf bodies bytesOfAll bytesOf bodyLength bodyLengths isKind field value bytes
+    attributesOf familyOf union allows inRange members isEmpty single _∪_ within has bit
+trials-hold = refl

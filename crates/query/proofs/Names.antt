@@ -1,0 +1,214 @@
+-- What records ask: items and comparisons are the fields of the records, and X has the attributes named.
+-- In order: items, comparisons, names, the attributes of a variable, lists in arrays.
+-- Assumes nothing.
+use mathlib.Core.Path.{_≡_, refl, sym, ap, ap₂, subst}
+use mathlib.Core.Bool.{Bool, true, false}
+use mathlib.Core.Logic.{_⊎_, inl, inr, ⊎-elim}
+use mathlib.Core.List.{List, [], _∷_, _++_, List·Memᴰ, List·Memᴰ·head, List·Memᴰ·tail}
+use mathlib.Core.List.{List·Memᴰ·not-nil, List·Memᴰ·cases-cons, List·Memᴰ·append-cases, List·Memᴰ·eq-of-singleton}
+use mathlib.Core.List.{Memᴰ·append-left, Memᴰ·append-right}
+use Prim.Native.Nat.{ℕ, zero, suc, _≤_, _<_}
+use native.Mathlib.Omega.{arith}
+use borrow.Author.Tests.{eqb-true, eqb-false}
+use lib.Dec.{eqb}
+use lib.ListN.{length, getD, take}
+use Rattle.sets.specs.Sets.{_∈_, insert, single}
+use Rattle.sets.proofs.Bits.{in-out}
+use Rattle.sets.proofs.Sets.{∪-left, ∪-cases, in-single, insert-in, zero-out}
+use Rattle.records.specs.Gathered.{Gathered, ended, taken, passedOver}
+use Rattle.records.specs.Records.{kindOf}
+use Rattle.records.specs.declared.Record.{Record}
+use Rattle.records.specs.declared.Record.the-variants.{Attribute, Object, Dependency, Row, Declared, Removed, Item}
+use Rattle.records.specs.declared.Record.the-variants.{CompareTwo, CompareConstant, End}
+use Rattle.query.specs.declared.QueryItem.{QueryItem}
+use Rattle.query.specs.declared.Comparison.{Comparison}
+use Rattle.query.specs.Asking.{pair, itemOf, itemsOf, ofTwo, comparisonOf, comparisonsOf, nameOf, namesOf}
+use Rattle.query.specs.Asking.{naming, attributesNamed, filled, askedOf}
+use Rattle.query.specs.Accepting.{Names, item, left, right, ofConstant, NamedIn}
+use Rattle.query.specs.Statements.{SaysItem, SaysComparison, two, constant, AskedWhole}
+
+-- ---- items
+
+-- a record of another kind is no item
+no-item : (r : Record) → (kindOf r ≡ 7 → ⊥) → (i : QueryItem) → SaysItem r i → ⊥
+unfolding kindOf
+no-item r n i e = n (ap kindOf e)
+
+pub items-gathered : (rs : List Record) → Gathered SaysItem rs (itemsOf rs)
+unfolding itemsOf itemOf kindOf
+items-gathered [] = ended
+items-gathered (r ∷ rs) = more r (items-gathered rs)
+  where
+    more : (r : Record) {xs : List QueryItem} → Gathered SaysItem rs xs → Gathered SaysItem (r ∷ rs) (itemOf r ++ xs)
+    more (Attribute id kind) g = passedOver (no-item (Attribute id kind) (λ z. omega arith)) g
+    more (Object number set) g = passedOver (no-item (Object number set) (λ z. omega arith)) g
+    more (Dependency from to) g = passedOver (no-item (Dependency from to) (λ z. omega arith)) g
+    more (Row object c0 c1 c2 c3 c4 c5) g = passedOver (no-item (Row object c0 c1 c2 c3 c4 c5) (λ z. omega arith)) g
+    more (Declared set) g = passedOver (no-item (Declared set) (λ z. omega arith)) g
+    more (Removed set) g = passedOver (no-item (Removed set) (λ z. omega arith)) g
+    more (Item v a) g = taken refl g
+    more (CompareTwo v a operator v2 a2) g =
+        passedOver (no-item (CompareTwo v a operator v2 a2) (λ z. omega arith)) g
+    more (CompareConstant v a operator cell) g =
+        passedOver (no-item (CompareConstant v a operator cell) (λ z. omega arith)) g
+    more End g = passedOver (no-item End (λ z. omega arith)) g
+
+-- ---- comparisons
+
+-- a record of another kind than 8 and 9 is no comparison
+no-comparison : (r : Record) → (8 ≤ kindOf r → kindOf r ≤ 9 → ⊥) → (c : Comparison) → SaysComparison r c → ⊥
+unfolding kindOf
+no-comparison _ n c two = n (omega arith) (omega arith)
+no-comparison _ n c constant = n (omega arith) (omega arith)
+
+pub comparisons-gathered : (rs : List Record) → Gathered SaysComparison rs (comparisonsOf rs)
+unfolding comparisonsOf comparisonOf kindOf
+comparisons-gathered [] = ended
+comparisons-gathered (r ∷ rs) = more r (comparisons-gathered rs)
+  where
+    more : (r : Record) {xs : List Comparison} → Gathered SaysComparison rs xs
+        → Gathered SaysComparison (r ∷ rs) (comparisonOf r ++ xs)
+    more (Attribute id kind) g = passedOver (no-comparison (Attribute id kind) (λ l u. omega arith)) g
+    more (Object number set) g = passedOver (no-comparison (Object number set) (λ l u. omega arith)) g
+    more (Dependency from to) g = passedOver (no-comparison (Dependency from to) (λ l u. omega arith)) g
+    more (Row object c0 c1 c2 c3 c4 c5) g = passedOver (no-comparison (Row object c0 c1 c2 c3 c4 c5) (λ l u. omega arith)) g
+    more (Declared set) g = passedOver (no-comparison (Declared set) (λ l u. omega arith)) g
+    more (Removed set) g = passedOver (no-comparison (Removed set) (λ l u. omega arith)) g
+    more (Item v a) g = passedOver (no-comparison (Item v a) (λ l u. omega arith)) g
+    more (CompareTwo v a operator v2 a2) g = taken two g
+    more (CompareConstant v a operator cell) g = taken constant g
+    more End g = passedOver (no-comparison End (λ l u. omega arith)) g
+
+-- ---- names
+
+-- a record names what its names are
+name-in : {v a : ℕ} {r : Record} → Names v a r → List·Memᴰ (pair v a) (nameOf r)
+unfolding nameOf
+name-in item = List·Memᴰ·head refl
+name-in left = List·Memᴰ·head refl
+name-in right = List·Memᴰ·tail (List·Memᴰ·head refl)
+name-in ofConstant = List·Memᴰ·head refl
+
+same-name : {v a w b : ℕ} (P : ℕ → ℕ → Type 0) → pair v a ≡ pair w b → P w b → P v a
+same-name {v} {a} {w} {b} P e p =
+    let q : v ≡ w = ap (λ (i : QueryItem). i .variable) e in
+    let t : a ≡ b = ap (λ (i : QueryItem). i .attribute) e in
+    subst (λ (x : ℕ). P x a) (sym q) (subst (P w) (sym t) p)
+
+in-name : {v a : ℕ} (r : Record) → List·Memᴰ (pair v a) (nameOf r) → Names v a r
+unfolding nameOf
+in-name (Attribute id kind) m = absurd (List·Memᴰ·not-nil m)
+in-name (Object number set) m = absurd (List·Memᴰ·not-nil m)
+in-name (Dependency from to) m = absurd (List·Memᴰ·not-nil m)
+in-name (Row object c0 c1 c2 c3 c4 c5) m = absurd (List·Memᴰ·not-nil m)
+in-name (Declared set) m = absurd (List·Memᴰ·not-nil m)
+in-name (Removed set) m = absurd (List·Memᴰ·not-nil m)
+in-name (Item w b) m = same-name (λ x y. Names x y (Item w b)) (List·Memᴰ·eq-of-singleton m) item
+in-name (CompareTwo w b operator w2 b2) m =
+    ⊎-elim (λ e. same-name (λ x y. Names x y (CompareTwo w b operator w2 b2)) e left)
+    (λ n. same-name (λ x y. Names x y (CompareTwo w b operator w2 b2)) (List·Memᴰ·eq-of-singleton n) right)
+    (List·Memᴰ·cases-cons m)
+in-name (CompareConstant w b operator cell) m =
+    same-name (λ x y. Names x y (CompareConstant w b operator cell)) (List·Memᴰ·eq-of-singleton m) ofConstant
+in-name End m = absurd (List·Memᴰ·not-nil m)
+
+-- so do records
+names-in : {v a : ℕ} {r : Record} {rs : List Record} → List·Memᴰ r rs → Names v a r
+    → List·Memᴰ (pair v a) (namesOf rs)
+unfolding namesOf
+names-in {v} {a} {r} (List·Memᴰ·head {xs = rs} e) n =
+    Memᴰ·append-left (namesOf rs) (name-in (subst (Names v a) e n))
+names-in (List·Memᴰ·tail {x = x} m) n = Memᴰ·append-right (nameOf x) (names-in m n)
+
+in-names : {v a : ℕ} (rs : List Record) → List·Memᴰ (pair v a) (namesOf rs) → NamedIn rs v a
+unfolding namesOf
+in-names [] m = absurd (List·Memᴰ·not-nil m)
+in-names {v} {a} (r ∷ rs) m = here (λ p. in-names rs p) (List·Memᴰ·append-cases (nameOf r) m)
+  where
+    here : (List·Memᴰ (pair v a) (namesOf rs) → NamedIn rs v a)
+        → List·Memᴰ (pair v a) (nameOf r) ⊎ List·Memᴰ (pair v a) (namesOf rs) → NamedIn (r ∷ rs) v a
+    here later (inl p) = record { by = r; there = List·Memᴰ·head refl; names = in-name r p }
+    here later (inr p) =
+        let n = later p in
+        record { by = n .by; there = List·Memᴰ·tail (n .there); names = n .names }
+
+-- ---- the attributes of a variable
+
+module _ (v : ℕ) {a : ℕ} where
+  -- what X has, it keeps
+  naming-keeps : (X : ℕ) (ns : List QueryItem) → a ∈ X → a ∈ naming v X ns
+  unfolding naming
+  naming-keeps X [] i = i
+  naming-keeps X (n ∷ ns) i =
+      naming-keeps (elim (eqb (n .variable) v) [ true ↦ insert X (n .attribute) | false ↦ X ]) ns
+      (by (eqb (n .variable) v))
+    where
+      by : (t : Bool) → a ∈ elim t [ true ↦ insert X (n .attribute) | false ↦ X ]
+      by true = ∪-left (single (n .attribute)) i
+      by false = i
+
+  -- a name of v is taken
+  naming-takes : (X : ℕ) {ns : List QueryItem} → List·Memᴰ (pair v a) ns → a ∈ naming v X ns
+  unfolding naming
+  naming-takes X (List·Memᴰ·head {x = n} {xs = ns} e) = by (eqb (n .variable) v) refl
+    where
+      by : (t : Bool) → eqb (n .variable) v ≡ t
+          → a ∈ naming v (elim t [ true ↦ insert X (n .attribute) | false ↦ X ]) ns
+      by true y =
+          naming-keeps (insert X (n .attribute)) ns
+          (subst (λ (x : ℕ). a ∈ insert X x) (ap (λ (i : QueryItem). i .attribute) e) (insert-in X a))
+      by false y = absurd (eqb-false (n .variable) v y (sym (ap (λ (i : QueryItem). i .variable) e)))
+  naming-takes X (List·Memᴰ·tail {x = n} m) =
+      naming-takes (elim (eqb (n .variable) v) [ true ↦ insert X (n .attribute) | false ↦ X ]) m
+
+  -- nothing else is there
+  naming-only : (X : ℕ) (ns : List QueryItem) → a ∈ naming v X ns → (a ∈ X) ⊎ List·Memᴰ (pair v a) ns
+  unfolding naming
+  naming-only X [] i = inl i
+  naming-only X (n ∷ ns) i = by (eqb (n .variable) v) refl (λ Y. naming-only Y ns) i
+    where
+      by : (t : Bool) → eqb (n .variable) v ≡ t
+          → ((Y : ℕ) → a ∈ naming v Y ns → (a ∈ Y) ⊎ List·Memᴰ (pair v a) ns)
+          → a ∈ naming v (elim t [ true ↦ insert X (n .attribute) | false ↦ X ]) ns
+          → (a ∈ X) ⊎ List·Memᴰ (pair v a) (n ∷ ns)
+      by true y later p =
+          let w : n .variable ≡ v = eqb-true (n .variable) v y in
+          ⊎-elim
+          (λ q. ⊎-elim (λ o. inl o)
+          (λ o. inr (List·Memᴰ·head (ap₂ (λ (x y : ℕ). pair x y) (sym w) (in-single o))))
+          (∪-cases X (single (n .attribute)) q))
+          (λ m. inr (List·Memᴰ·tail m)) (later (insert X (n .attribute)) p)
+      by false y later p = ⊎-elim (λ q. inl q) (λ m. inr (List·Memᴰ·tail m)) (later X p)
+
+pub named-in : (rs : List Record) (v : ℕ) {a : ℕ} → a ∈ attributesNamed rs v → NamedIn rs v a
+unfolding attributesNamed
+named-in rs v {a} i =
+    ⊎-elim (λ z. absurd (in-out z (zero-out a))) (λ m. in-names rs m) (naming-only v 0 (namesOf rs) i)
+
+pub in-named : (rs : List Record) (v : ℕ) {a : ℕ} → NamedIn rs v a → a ∈ attributesNamed rs v
+unfolding attributesNamed
+in-named rs v n = naming-takes v 0 (names-in (n .there) (n .names))
+
+-- ---- lists in arrays
+
+take-filled : {A : Type 0} (d : A) (n : ℕ) (l : List A) → length l ≤ n → take (length l) (filled d n l) ≡ l
+unfolding filled
+take-filled d n [] h = refl
+take-filled d zero (x ∷ l) h = absurd (omega arith)
+take-filled d (suc n) (x ∷ l) h = ap (λ m. x ∷ m) (take-filled d n l (omega arith))
+
+pub asked-attributes : (rs : List Record) (v : ℕ) → v < 4 → getD (askedOf rs .attributes) v 0 ≡ attributesNamed rs v
+unfolding askedOf
+asked-attributes rs zero h = refl
+asked-attributes rs (suc zero) h = refl
+asked-attributes rs (suc (suc zero)) h = refl
+asked-attributes rs (suc (suc (suc zero))) h = refl
+asked-attributes rs (suc (suc (suc (suc v)))) h = absurd (omega arith)
+
+pub asked-whole : (rs : List Record) → length (itemsOf rs) ≤ 8 → length (comparisonsOf rs) ≤ 16 → AskedWhole rs
+unfolding askedOf
+asked-whole rs i c = record {
+  items = take-filled (pair 0 0) 8 (itemsOf rs) i;
+  comparisons = take-filled (ofTwo 0 0 0 0 0) 16 (comparisonsOf rs) c;
+  attributes = asked-attributes rs;
+}
