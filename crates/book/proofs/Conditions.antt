@@ -22,7 +22,8 @@ use Rattle.records.specs.Checks.{Condition, First}
 use Rattle.records.specs.declared.Record.{Record}
 use Rattle.records.specs.declared.Record.the-variants.{Attribute, Object, Dependency, Row, Declared, Removed, Item}
 use Rattle.records.specs.declared.Record.the-variants.{CompareTwo, CompareConstant, End}
-use Rattle.records.proofs.Checks.{Same, Agree, ended, next, first-agrees, first-unique, same-always, same-or}
+use Rattle.records.proofs.Checks.{EachNumber, first-number, Same, Agree, ended, next, first-agrees, first-unique}
+use Rattle.records.proofs.Checks.{same-always, same-or}
 use Rattle.records.proofs.Checks.{same-or-three, same-lt, same-le, same-empty, same-has, same-absent, same-not-within}
 use Rattle.relation.specs.Tables.{cellOf}
 use Rattle.scheme.specs.declared.Scheme.{Scheme}
@@ -158,18 +159,11 @@ first-fault s r f = first-unique (conditions s r) (fault-first s r) f
 
 -- ---- its range: a fault is a number from 2 to 7
 
-Between : List Condition → Type 0
-Between [] = Unit {0}
-Between (c ∷ cs) = ((2 ≤ c .number) × (c .number ≤ 7)) × Between cs
+abbrev TwoToSeven : ℕ → Type 0
+TwoToSeven n = (2 ≤ n) × (n ≤ 7)
 
-first-between : (cs : List Condition) (n : ℕ) → Between cs → First cs n → (n ≡ 0 → ⊥) → (2 ≤ n) × (n ≤ 7)
-unfolding First Between
-first-between [] n b f d = absurd (d f)
-first-between (c ∷ cs) n b (inl f) d = subst (λ (x : ℕ). (2 ≤ x) × (x ≤ 7)) (sym (f .1)) (b .0)
-first-between (c ∷ cs) n b (inr f) d = first-between cs n (b .1) (f .1) d
-
-between : (s : Scheme) (r : Record) → Between (conditions s r)
-unfolding Between conditions rowConditions maximalConditions
+between : (s : Scheme) (r : Record) → EachNumber TwoToSeven (conditions s r)
+unfolding EachNumber conditions rowConditions maximalConditions
 between s (Attribute id kind) = omega arith
 between s (Object number set) = omega arith
 between s (Dependency left right) = omega arith
@@ -182,4 +176,4 @@ between s (CompareConstant variable attribute operator cell) = omega arith
 between s End = omega arith
 
 pub fault-between : (s : Scheme) (r : Record) → (faultOf s r ≡ 0 → ⊥) → (2 ≤ faultOf s r) × (faultOf s r ≤ 7)
-fault-between s r d = first-between (conditions s r) (faultOf s r) (between s r) (fault-first s r) d
+fault-between s r d = first-number TwoToSeven (conditions s r) (faultOf s r) (between s r) (fault-first s r) d

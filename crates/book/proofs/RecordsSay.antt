@@ -43,7 +43,9 @@ use Rattle.book.specs.Reading.{Outcome, Held, isRow, withRow}
 use Rattle.book.specs.Accepting.{AcceptedAs}
 use Rattle.book.specs.WellFormed.{WellFormed}
 use Rattle.book.specs.TablesOf.{cellsOf, rowOf, rowsOf, tablesOf}
-use Rattle.book.specs.RecordsSay.{Gathered, ended, taken, passedOver, SaysDependency, SaysDeclared, SaysRemoved}
+use Rattle.records.specs.Gathered.{Gathered, ended}
+use Rattle.records.proofs.Gathered.{gathered-more, gathered-same}
+use Rattle.book.specs.RecordsSay.{SaysDependency, SaysDeclared, SaysRemoved}
 use Rattle.book.specs.RecordsSay.{SaysRow, ByNumber, ZeroFrom, SchemeSaid, RowsAt, behindLast, row, noRow}
 use Rattle.book.specs.RecordsSay.{RowsSaid}
 use Rattle.book.specs.RecordsSay.{TableSaid}
@@ -53,19 +55,6 @@ use Rattle.book.proofs.Declaring.{object-accepted, dependency-accepted,
 use Rattle.book.proofs.WellFormed.{take-more, pairs-more, accepted-well-formed}
 
 -- ---- one record more
-
-module _ {A : Type 0} (Says : Record → A → Type 0) (r : Record) where
-  gathered-more : {rs : List Record} (x : A) {xs : List A} → Says r x → Gathered Says rs xs
-      → Gathered Says (rs ++ r ∷ []) (xs ++ x ∷ [])
-  gathered-more x w ended = taken w ended
-  gathered-more x w (taken v g) = taken v (gathered-more x w g)
-  gathered-more x w (passedOver n g) = passedOver n (gathered-more x w g)
-
-  gathered-same : {rs : List Record} {xs : List A} → ((x : A) → Says r x → ⊥) → Gathered Says rs xs
-      → Gathered Says (rs ++ r ∷ []) xs
-  gathered-same n ended = passedOver n ended
-  gathered-same n (taken v g) = taken v (gathered-same n g)
-  gathered-same n (passedOver m g) = passedOver m (gathered-same n g)
 
 module _ {says : ℕ → ℕ → Record} {rs : List Record} {numbers : ℕ} {fields : List ℕ}
     (k : ByNumber says rs numbers fields) where

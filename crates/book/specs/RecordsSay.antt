@@ -8,6 +8,7 @@ use mathlib.Core.List.{List, [], _∷_, List·Memᴰ}
 use Prim.Native.Nat.{ℕ, _+_, _≤_}
 use lib.ListN.{length, getD}
 use Rattle.sets.specs.Sets.{_∈_, _∉_}
+use Rattle.records.specs.Gathered.{Gathered}
 use Rattle.records.specs.Records.{kindOf, bytesOf}
 use Rattle.records.specs.Reader.{Reads}
 use Rattle.records.specs.declared.Record.{Record}
@@ -19,15 +20,6 @@ use Rattle.scheme.specs.OfScheme.{dependenciesOf, declaredOf, removedOf}
 use Rattle.book.specs.TablesOf.{rowsOf}
 
 -- ---- the fields of one kind in order
-
--- xs is what some of the records say, in their order: each record that says something gives one of xs, and each other
--- none
-pub data Gathered {A : Type 0} (Says : Record → A → Type 0) : List Record → List A → Type 0 where
-  ended : Gathered Says [] []
-  taken : {r : Record} {rs : List Record} {x : A} {xs : List A} → Says r x → Gathered Says rs xs
-      → Gathered Says (r ∷ rs) (x ∷ xs)
-  passedOver : {r : Record} {rs : List Record} {xs : List A} → ((x : A) → Says r x → ⊥) → Gathered Says rs xs
-      → Gathered Says (r ∷ rs) xs
 
 -- "dependency: left determines right"
 abbrev pub SaysDependency : Record → Dependencies.Dependency → Type 0

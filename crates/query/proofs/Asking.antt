@@ -14,7 +14,7 @@ use lib.ListN.{length, getD, set, length-append}
 use types.Run.{OneOf, miss}
 use denote.Enum.Declared.{tagOf}
 use Rattle.sets.specs.Sets.{insert}
-use Rattle.sets.proofs.Tests.{no-or}
+use Rattle.sets.proofs.Tests.{yes-no, no-or}
 use Rattle.records.proofs.Record.{the-type}
 use Rattle.records.proofs.Checks.{none-first}
 use Rattle.records.specs.declared.Record.{Record}
@@ -96,32 +96,39 @@ module _ (s : Scheme) (items comparisons : ℕ) where
 
 -- ---- lists of records with one more
 
+-- f is what each record gives, one after another
+record Each {A : Type 0} (give : Record → List A) (f : List Record → List A) : Type 0 where
+  none : f [] ≡ []
+  more : (r : Record) (rs : List Record) → f (r ∷ rs) ≡ give r ++ f rs
+
+each-more : {A : Type 0} (give : Record → List A) (f : List Record → List A) → Each give f → (rs : List Record)
+    (r : Record) → f (rs ++ r ∷ []) ≡ f rs ++ give r
+each-more give f e [] r =
+    e .more r [] ∙ ap (λ l. give r ++ l) (e .none) ∙ append-nil (give r) ∙ ap (λ l. l ++ give r) (sym (e .none))
+each-more give f e (x ∷ rs) r =
+    e .more x (rs ++ r ∷ []) ∙ ap (λ l. give x ++ l) (each-more give f e rs r)
+    ∙ sym (append-assoc (give x) (f rs) (give r)) ∙ ap (λ l. l ++ give r) (sym (e .more x rs))
+
 pub items-more : (rs : List Record) (r : Record) → itemsOf (rs ++ r ∷ []) ≡ itemsOf rs ++ itemOf r
 unfolding itemsOf
-items-more [] r = append-nil (itemOf r)
-items-more (q ∷ rs) r =
-    ap (λ (l : List QueryItem). itemOf q ++ l) (items-more rs r) ∙ sym (append-assoc (itemOf q) (itemsOf rs) (itemOf r))
+items-more = each-more itemOf itemsOf (record { none = refl; more = λ r rs. refl })
 
-pub comparisons-more : (rs : List Record) (r : Record) → comparisonsOf (rs ++ r ∷ []) ≡ comparisonsOf rs ++ comparisonOf r
+pub comparisons-more : (rs : List Record) (r : Record)
+    → comparisonsOf (rs ++ r ∷ []) ≡ comparisonsOf rs ++ comparisonOf r
 unfolding comparisonsOf
-comparisons-more [] r = append-nil (comparisonOf r)
-comparisons-more (q ∷ rs) r =
-    ap (λ (l : List Comparison). comparisonOf q ++ l) (comparisons-more rs r)
-    ∙ sym (append-assoc (comparisonOf q) (comparisonsOf rs) (comparisonOf r))
+comparisons-more = each-more comparisonOf comparisonsOf (record { none = refl; more = λ r rs. refl })
 
-pub names-more : (rs : List Record) (r : Record) → namesOf (rs ++ r ∷ []) ≡ namesOf rs ++ nameOf r
+names-more : (rs : List Record) (r : Record) → namesOf (rs ++ r ∷ []) ≡ namesOf rs ++ nameOf r
 unfolding namesOf
-names-more [] r = append-nil (nameOf r)
-names-more (q ∷ rs) r =
-    ap (λ (l : List QueryItem). nameOf q ++ l) (names-more rs r) ∙ sym (append-assoc (nameOf q) (namesOf rs) (nameOf r))
+names-more = each-more nameOf namesOf (record { none = refl; more = λ r rs. refl })
 
-pub naming-append : (v X : ℕ) (ns ms : List QueryItem) → naming v X (ns ++ ms) ≡ naming v (naming v X ns) ms
+naming-append : (v X : ℕ) (ns ms : List QueryItem) → naming v X (ns ++ ms) ≡ naming v (naming v X ns) ms
 unfolding naming
 naming-append v X [] ms = refl
 naming-append v X (n ∷ ns) ms =
     naming-append v (elim (eqb (n .variable) v) [ true ↦ insert X (n .attribute) | false ↦ X ]) ns ms
 
-pub attributes-more : (rs : List Record) (r : Record) (v : ℕ)
+attributes-more : (rs : List Record) (r : Record) (v : ℕ)
     → attributesNamed (rs ++ r ∷ []) v ≡ naming v (attributesNamed rs v) (nameOf r)
 unfolding attributesNamed
 attributes-more rs r v = ap (naming v 0) (names-more rs r) ∙ naming-append v 0 (namesOf rs) (nameOf r)
@@ -259,6 +266,19 @@ asked-record s rs End f = asks-nothing rs End refl refl refl
 pub asked-end : (rs : List Record) → askedOf rs ≡ askedOf (rs ++ End ∷ [])
 unfolding itemOf comparisonOf nameOf
 asked-end rs = asks-nothing rs End refl refl refl
+
+pub last-is-end : (r : Record) → isEnd r ≡ true → r ≡ End
+unfolding isEnd
+last-is-end (Attribute id kind) e = absurd (yes-no e refl)
+last-is-end (Object number set) e = absurd (yes-no e refl)
+last-is-end (Dependency left right) e = absurd (yes-no e refl)
+last-is-end (Row object c0 c1 c2 c3 c4 c5) e = absurd (yes-no e refl)
+last-is-end (Declared set) e = absurd (yes-no e refl)
+last-is-end (Removed set) e = absurd (yes-no e refl)
+last-is-end (Item v a) e = absurd (yes-no e refl)
+last-is-end (CompareTwo v a operator v2 a2) e = absurd (yes-no e refl)
+last-is-end (CompareConstant v a operator cell) e = absurd (yes-no e refl)
+last-is-end End e = refl
 
 -- ---- records by their variant
 

@@ -20,7 +20,8 @@ use Rattle.records.specs.Walking.{Sound}
 use Rattle.records.specs.declared.Record.{Record}
 use Rattle.records.specs.declared.Record.the-variants.{Attribute, Object, Dependency, Row, Declared, Removed, Item}
 use Rattle.records.specs.declared.Record.the-variants.{CompareTwo, CompareConstant, End}
-use Rattle.records.proofs.Checks.{Agree, ended, next, first-agrees, first-unique, same-always, same-not, same-or}
+use Rattle.records.proofs.Checks.{EachNumber, first-number, Agree, ended, next, first-agrees, first-unique, same-always}
+use Rattle.records.proofs.Checks.{same-not, same-or}
 use Rattle.records.proofs.Checks.{same-lt, same-le, same-absent}
 use Rattle.scheme.specs.declared.Scheme.{Scheme}
 use Rattle.query.specs.Asking.{itemsOf, comparisonsOf}
@@ -77,19 +78,8 @@ pub data FaultNumber : ℕ → Type 0 where
   seven : FaultNumber 7
   eleven : FaultNumber 11
 
--- each condition gives one of them
-Numbered : List Condition → Type 0
-Numbered [] = Unit {0}
-Numbered (c ∷ cs) = FaultNumber (c .number) × Numbered cs
-
-first-numbered : (cs : List Condition) (n : ℕ) → Numbered cs → First cs n → (n ≡ 0 → ⊥) → FaultNumber n
-unfolding First Numbered
-first-numbered [] n m f d = absurd (d f)
-first-numbered (c ∷ cs) n m (inl f) d = subst FaultNumber (sym (f .1)) (m .0)
-first-numbered (c ∷ cs) n m (inr f) d = first-numbered cs n (m .1) (f .1) d
-
-numbered : (s : Scheme) (items comparisons : ℕ) (r : Record) → Numbered (conditions s items comparisons r)
-unfolding Numbered conditions
+numbered : (s : Scheme) (items comparisons : ℕ) (r : Record) → EachNumber FaultNumber (conditions s items comparisons r)
+unfolding EachNumber conditions
 numbered s items comparisons (Attribute id kind) = (two, tt)
 numbered s items comparisons (Object number set) = (two, tt)
 numbered s items comparisons (Dependency left right) = (two, tt)
@@ -104,7 +94,7 @@ numbered s items comparisons End = tt
 pub fault-number : (s : Scheme) (items comparisons : ℕ) (r : Record) → (faultOf s items comparisons r ≡ 0 → ⊥)
     → FaultNumber (faultOf s items comparisons r)
 fault-number s items comparisons r d =
-    first-numbered (conditions s items comparisons r) (faultOf s items comparisons r) (numbered s items comparisons r)
+    first-number FaultNumber (conditions s items comparisons r) (faultOf s items comparisons r) (numbered s items comparisons r)
     (fault-first s items comparisons r) d
 
 pub fault-splits : {n : ℕ} → FaultNumber n → ((2 ≤ n) × (n ≤ 7)) ⊎ (n ≡ 11)

@@ -1,18 +1,16 @@
 -- What accepted records ask fits the arrays that the code has, and names variables and attributes in their range: a
 -- record that would not has a fault.
--- In order: one record more, a record without a fault, accepted records.
+-- In order: a record without a fault, accepted records.
 -- Assumes nothing.
-use mathlib.Core.Path.{_≡_, refl, sym, ap, _∙_, subst}
-use mathlib.Core.Bool.{true, false, _||_}
+use mathlib.Core.Path.{_≡_, refl, ap, subst}
+use mathlib.Core.Bool.{true}
 use mathlib.Core.Logic.{⊎-elim}
-use mathlib.Core.List.{List, [], _∷_, _++_, append-nil, append-assoc}
+use mathlib.Core.List.{List, [], _∷_, _++_}
 use mathlib.Core.List.{List·Memᴰ·not-nil, List·Memᴰ·append-cases, List·Memᴰ·eq-of-singleton}
 use Prim.Native.Nat.{ℕ, _+_, _≤_, _<_}
 use native.Mathlib.Omega.{arith}
-use borrow.Author.Tests.{ltb-false, leb-false}
-use lib.Dec.{ltb, leb}
 use lib.ListN.{length, length-append}
-use Rattle.sets.proofs.Tests.{yes-no, no-or}
+use Rattle.sets.proofs.Tests.{yes-no}
 use Rattle.records.specs.Checks.{firstOf}
 use Rattle.records.specs.Walking as Walking
 use Rattle.records.specs.declared.Record.{Record}
@@ -20,52 +18,12 @@ use Rattle.records.specs.declared.Record.the-variants.{Attribute, Object, Depen
 use Rattle.records.specs.declared.Record.the-variants.{CompareTwo, CompareConstant, End}
 use Rattle.records.proofs.Checks.{none-first}
 use Rattle.scheme.specs.declared.Scheme.{Scheme}
-use Rattle.query.specs.Asking.{itemOf, itemsOf, comparisonOf, comparisonsOf, nameOf, namesOf}
-use Rattle.query.specs.Asking.{attributesNamed, askedOf}
+use Rattle.query.specs.Asking.{itemOf, itemsOf, comparisonOf, comparisonsOf}
 use Rattle.query.specs.Faults.{checks, faultOf}
 use Rattle.query.specs.Reading.{queryRules}
+use Rattle.query.proofs.Asking.{NewName, item-accepted, two-accepted, constant-accepted, items-more}
+use Rattle.query.proofs.Asking.{comparisons-more}
 use Rattle.query.specs.Accepting.{Names, item, left, right, ofConstant, NamedIn, Accepted}
-
--- ---- one record more
-
--- f is what each record gives, one after another
-record Each {A : Type 0} (give : Record → List A) (f : List Record → List A) : Type 0 where
-  none : f [] ≡ []
-  more : (r : Record) (rs : List Record) → f (r ∷ rs) ≡ give r ++ f rs
-
-each-one-more : {A : Type 0} (give : Record → List A) (f : List Record → List A) → Each give f → (rs : List Record)
-    (r : Record) → f (rs ++ r ∷ []) ≡ f rs ++ give r
-each-one-more give f e [] r =
-    e .more r [] ∙ ap (λ l. give r ++ l) (e .none) ∙ append-nil (give r) ∙ ap (λ l. l ++ give r) (sym (e .none))
-each-one-more give f e (x ∷ rs) r =
-    e .more x (rs ++ r ∷ []) ∙ ap (λ l. give x ++ l) (each-one-more give f e rs r)
-    ∙ sym (append-assoc (give x) (f rs) (give r)) ∙ ap (λ l. l ++ give r) (sym (e .more x rs))
-
-items-one-more : (rs : List Record) (r : Record) → itemsOf (rs ++ r ∷ []) ≡ itemsOf rs ++ itemOf r
-unfolding itemsOf
-items-one-more = each-one-more itemOf itemsOf (record { none = refl; more = λ r rs. refl })
-
-comparisons-one-more : (rs : List Record) (r : Record)
-    → comparisonsOf (rs ++ r ∷ []) ≡ comparisonsOf rs ++ comparisonOf r
-unfolding comparisonsOf
-comparisons-one-more = each-one-more comparisonOf comparisonsOf (record { none = refl; more = λ r rs. refl })
-
-names-one-more : (rs : List Record) (r : Record) → namesOf (rs ++ r ∷ []) ≡ namesOf rs ++ nameOf r
-unfolding namesOf
-names-one-more = each-one-more nameOf namesOf (record { none = refl; more = λ r rs. refl })
-
--- the end of the query asks nothing
-items-at-end : (rs : List Record) → itemsOf (rs ++ End ∷ []) ≡ itemsOf rs
-unfolding itemOf
-items-at-end rs = items-one-more rs End ∙ append-nil (itemsOf rs)
-
-pub asked-at-end : (rs : List Record) → askedOf (rs ++ End ∷ []) ≡ askedOf rs
-unfolding askedOf attributesNamed comparisonOf nameOf
-asked-at-end rs =
-    let i = items-at-end rs in
-    let c = comparisons-one-more rs End ∙ append-nil (comparisonsOf rs) in
-    let n = names-one-more rs End ∙ append-nil (namesOf rs) in
-    rw (i, c, n)
 
 -- ---- a record without a fault
 
@@ -84,11 +42,8 @@ record Fitting (items comparisons : ℕ) (r : Record) : Type 0 where
 other-faulty : {P : Type 0} → firstOf ((true, 2) ∷ []) ≡ 0 → P
 other-faulty e = absurd (yes-no refl (none-first true 2 [] (λ z. omega arith) e .0))
 
-name-in-range : {v a : ℕ} → ltb 3 v ≡ false → ltb 31 a ≡ false → NameInRange v a
-name-in-range {v} {a} p q = record {
-  variable = omega (arith, ltb-false 3 v p);
-  attribute = omega (arith, ltb-false 31 a q);
-}
+name-in-range : {before bound v a : ℕ} → NewName before bound v a → NameInRange v a
+name-in-range n = record { variable = n .variable; attribute = n .attribute }
 
 fitting : (s : Scheme) (items comparisons : ℕ) (r : Record) → faultOf s items comparisons r ≡ 0
     → Fitting items comparisons r
@@ -100,28 +55,21 @@ fitting s items comparisons (Row object c0 c1 c2 c3 c4 c5) e = other-faulty e
 fitting s items comparisons (Declared set) e = other-faulty e
 fitting s items comparisons (Removed set) e = other-faulty e
 fitting s items comparisons (Item v a) e =
-    let p = none-first (leb 8 items) 4 _ (λ z. omega arith) e in
-    let q = none-first (ltb 3 v || ltb 31 a) 5 _ (λ z. omega arith) (p .1) in
-    let o = no-or (ltb 3 v) (ltb 31 a) (q .0) in
+    let n = item-accepted s items comparisons v a e in
     record {
-      itemsFit = λ h. omega (arith, leb-false 8 items (p .0));
+      itemsFit = λ h. omega (arith, n .room);
       comparisonsFit = λ h. omega arith;
-      namesFit = λ n. named n (name-in-range (o .0) (o .1));
+      namesFit = λ m. named m (name-in-range n);
     }
   where
     named : {w b : ℕ} → Names w b (Item v a) → NameInRange v a → NameInRange w b
     named item n = n
 fitting s items comparisons (CompareTwo v a operator v2 a2) e =
-    let p = none-first (leb 16 comparisons) 4 _ (λ z. omega arith) e in
-    let q = none-first (ltb 3 v || (ltb 31 a || (ltb 5 operator || (ltb 3 v2 || ltb 31 a2)))) 5 _
-    (λ z. omega arith) (p .1) in
-    let o = no-or (ltb 3 v) (ltb 31 a || (ltb 5 operator || (ltb 3 v2 || ltb 31 a2))) (q .0) in
-    let o1 = no-or (ltb 31 a) (ltb 5 operator || (ltb 3 v2 || ltb 31 a2)) (o .1) in
-    let o2 = no-or (ltb 3 v2) (ltb 31 a2) (no-or (ltb 5 operator) (ltb 3 v2 || ltb 31 a2) (o1 .1) .1) in
+    let n = two-accepted s items comparisons v a operator v2 a2 e in
     record {
       itemsFit = λ h. omega arith;
-      comparisonsFit = λ h. omega (arith, leb-false 16 comparisons (p .0));
-      namesFit = λ n. named n (name-in-range (o .0) (o1 .0)) (name-in-range (o2 .0) (o2 .1));
+      comparisonsFit = λ h. omega (arith, n .0 .room);
+      namesFit = λ m. named m (name-in-range (n .0)) (name-in-range (n .1));
     }
   where
     named : {w b : ℕ} → Names w b (CompareTwo v a operator v2 a2) → NameInRange v a → NameInRange v2 a2
@@ -129,14 +77,11 @@ fitting s items comparisons (CompareTwo v a operator v2 a2) e =
     named left m n = m
     named right m n = n
 fitting s items comparisons (CompareConstant v a operator cell) e =
-    let p = none-first (leb 16 comparisons) 4 _ (λ z. omega arith) e in
-    let q = none-first (ltb 3 v || (ltb 31 a || ltb 5 operator)) 5 _ (λ z. omega arith) (p .1) in
-    let o = no-or (ltb 3 v) (ltb 31 a || ltb 5 operator) (q .0) in
-    let o1 = no-or (ltb 31 a) (ltb 5 operator) (o .1) in
+    let n = constant-accepted s items comparisons v a operator cell e in
     record {
       itemsFit = λ h. omega arith;
-      comparisonsFit = λ h. omega (arith, leb-false 16 comparisons (p .0));
-      namesFit = λ n. named n (name-in-range (o .0) (o1 .0));
+      comparisonsFit = λ h. omega (arith, n .room);
+      namesFit = λ m. named m (name-in-range n);
     }
   where
     named : {w b : ℕ} → Names w b (CompareConstant v a operator cell) → NameInRange v a → NameInRange w b
@@ -169,8 +114,8 @@ fits-one-more {rs} {r} w f =
     let i : length (itemsOf rs) + length (itemOf r) ≤ 8 = f .itemsFit (w .items) in
     let c : length (comparisonsOf rs) + length (comparisonOf r) ≤ 16 = f .comparisonsFit (w .comparisons) in
     record {
-      items = rw items-one-more (simp length-append i);
-      comparisons = rw comparisons-one-more (simp length-append c);
+      items = rw items-more (simp length-append i);
+      comparisons = rw comparisons-more (simp length-append c);
       named = λ {v} {a} n. ⊎-elim (λ m. w .named (record { by = n .by; there = m; names = n .names }))
           (λ m. f .namesFit (subst (Names v a) (List·Memᴰ·eq-of-singleton m) (n .names)))
           (List·Memᴰ·append-cases rs (n .there));

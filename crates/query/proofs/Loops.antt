@@ -35,7 +35,8 @@ use Rattle.query.specs.Faults.{ofQuery, faultOf}
 use Rattle.query.specs.Reading.{isEnd, queryRules, walkQuery, stopNumber, walkedOf, containing, isNil}
 use Rattle.query.specs.Reading.{unconnected}
 use Rattle.query.specs.Reading.{someUnconnected, wholeNumber, Outcome, refusedWith, atEnd, read, queryOf}
-use Rattle.query.proofs.Asking.{asked-nothing, asked-record, asked-end}
+use Rattle.query.proofs.Asking.{asked-nothing, asked-record, asked-end, last-is-end}
+use Rattle.query.proofs.Outcomes.{after-fault, after-end, end-fault, end-good, read-over, read-within}
 
 -- ---- numbers where no whole record stands
 
@@ -56,17 +57,7 @@ short-high k h l =
 
 -- the end of a query asks nothing
 asked-last : (rs : List Record) (r : Record) → isEnd r ≡ true → askedOf rs ≡ askedOf (rs ++ r ∷ [])
-unfolding isEnd
-asked-last rs (Attribute id kind) l = absurd (yes-no l refl)
-asked-last rs (Object number set) l = absurd (yes-no l refl)
-asked-last rs (Dependency left right) l = absurd (yes-no l refl)
-asked-last rs (Row object c0 c1 c2 c3 c4 c5) l = absurd (yes-no l refl)
-asked-last rs (Declared set) l = absurd (yes-no l refl)
-asked-last rs (Removed set) l = absurd (yes-no l refl)
-asked-last rs (Item v a) l = absurd (yes-no l refl)
-asked-last rs (CompareTwo v a operator v2 a2) l = absurd (yes-no l refl)
-asked-last rs (CompareConstant v a operator cell) l = absurd (yes-no l refl)
-asked-last rs End l = asked-end rs
+asked-last rs r l = asked-end rs ∙ ap (λ (x : Record). askedOf (rs ++ x ∷ [])) (sym (last-is-end r l))
 
 -- the records passed are accepted, and the code has what they ask
 pub record Walking (s : Scheme) (b : List ℕ) (q : Asked) (at : ℕ) : Type 0 where
@@ -244,47 +235,6 @@ module _ (s : Scheme) (Ms : List ℕ) (q : Asked) where
   whole-good d e n = ap (λ (t : Bool). elim t [ true ↦ 12 | false ↦ 0 ]) (sym n) ∙ whole-by d e
 
 module _ (s : Scheme) (Ms b : List ℕ) where
-  -- what follows once the bytes are few enough
-  abbrev behind : Bool → Outcome
-  behind t =
-      elim t [
-        | true ↦ atEnd (wholeNumber s Ms (askedOf (walkQuery s b .state))) (walkQuery s b .state) (walkQuery s b .at)
-        | false ↦ refusedWith (walkQuery s b .number) (walkQuery s b .state)
-      ]
-
-  abbrev reading : Bool → Outcome
-  reading t = elim t [ true ↦ refusedWith 1 [] | false ↦ behind (eqb (walkQuery s b .number) 0) ]
-
-  pub read-over : 65536 < length b → read s Ms b ≡ refusedWith 1 []
-  unfolding read
-  read-over h = ap reading (lt-ltb 65536 (length b) h)
-
-  pub read-faulty : length b ≤ 65536 → (walkQuery s b .number ≡ 0 → ⊥)
-      → read s Ms b ≡ refusedWith (walkQuery s b .number) (walkQuery s b .state)
-  unfolding read
-  read-faulty h d = ap reading (le-ltb 65536 (length b) h) ∙ ap behind (ne-eqb (walkQuery s b .number) 0 d)
-
-  pub read-ended : length b ≤ 65536 → walkQuery s b .number ≡ 0 → read s Ms b
-      ≡ atEnd (wholeNumber s Ms (askedOf (walkQuery s b .state))) (walkQuery s b .state) (walkQuery s b .at)
-  unfolding read
-  read-ended h e = ap reading (le-ltb 65536 (length b) h) ∙ ap behind (eq-eqb (walkQuery s b .number) 0 e)
-
-pub at-end-refused : (n : ℕ) (rs : List Record) (at : ℕ) → (n ≡ 0 → ⊥) → atEnd n rs at ≡ refusedWith n rs
-unfolding atEnd
-at-end-refused n rs at d =
-    ap {B = Outcome}
-    (λ (t : Bool). elim t [ true ↦ record { number = 0; records = rs; read = at } | false ↦ refusedWith n rs ])
-    (ne-eqb n 0 d)
-
-pub at-end-good : (n : ℕ) (rs : List Record) (at : ℕ) → n ≡ 0
-    → atEnd n rs at ≡ record { number = 0; records = rs; read = at }
-unfolding atEnd
-at-end-good n rs at e =
-    ap {B = Outcome}
-    (λ (t : Bool). elim t [ true ↦ record { number = 0; records = rs; read = at } | false ↦ refusedWith n rs ])
-    (eq-eqb n 0 e)
-
-module _ (s : Scheme) (Ms b : List ℕ) where
   pub query-over : {q : Asked} → 65536 < length b → q ≡ nothingAsked
       → _≡_ {A = Query} (record { refusal = 1; asked = q; read = 0 }) (queryOf (read s Ms b))
   unfolding queryOf
@@ -311,7 +261,7 @@ module _ (s : Scheme) (Ms b : List ℕ) where
     unfolding queryOf
     query-faulty d =
         ap₂ {C = Query} (λ (n : ℕ) (x : Asked). record { refusal = n; asked = x; read = 0 }) number-is asked-is
-        ∙ ap queryOf (sym (read-faulty s Ms b h (λ z. d (number-is ∙ z))))
+        ∙ ap queryOf (sym (read-within s Ms b h ∙ after-fault s Ms (walkQuery s b) (λ z. d (number-is ∙ z))))
 
     module _ (z : w .refusal ≡ 0) {n : ℕ} (p : n ≡ wholeNumber s Ms (w .asked)) where
       whole-is : n ≡ wholeNumber s Ms (askedOf (walkQuery s b .state))
@@ -321,8 +271,8 @@ module _ (s : Scheme) (Ms b : List ℕ) where
           → _≡_ {A = Query} (record { refusal = n; asked = w .asked; read = 0 }) (queryOf (read s Ms b))
       unfolding queryOf
       query-refused d =
-          let ended = read-ended s Ms b h (sym number-is ∙ z) in
-          let out = at-end-refused (wholeNumber s Ms (askedOf (walkQuery s b .state))) (walkQuery s b .state)
+          let ended = read-within s Ms b h ∙ after-end s Ms (walkQuery s b) (sym number-is ∙ z) in
+          let out = end-fault (wholeNumber s Ms (askedOf (walkQuery s b .state))) (walkQuery s b .state)
           (walkQuery s b .at) (λ y. d (whole-is ∙ y)) in
           ap₂ {C = Query} (λ (k : ℕ) (x : Asked). record { refusal = k; asked = x; read = 0 }) whole-is asked-is
           ∙ ap queryOf (sym (ended ∙ out))
@@ -331,8 +281,8 @@ module _ (s : Scheme) (Ms b : List ℕ) where
           → _≡_ {A = Query} (record { refusal = n; asked = w .asked; read = w .at }) (queryOf (read s Ms b))
       unfolding queryOf
       query-answered y =
-          let ended = read-ended s Ms b h (sym number-is ∙ z) in
-          let out = at-end-good (wholeNumber s Ms (askedOf (walkQuery s b .state))) (walkQuery s b .state)
+          let ended = read-within s Ms b h ∙ after-end s Ms (walkQuery s b) (sym number-is ∙ z) in
+          let out = end-good (wholeNumber s Ms (askedOf (walkQuery s b .state))) (walkQuery s b .state)
           (walkQuery s b .at) (sym whole-is ∙ y) in
           ap {B = Query} (λ (k : ℕ). record { refusal = k; asked = w .asked; read = w .at }) y
           ∙ ap₂ {C = Query} (λ (x : Asked) (k : ℕ). record { refusal = 0; asked = x; read = k }) asked-is at-is

@@ -29,6 +29,7 @@ use Rattle.query.specs.Accepting.{OfWhole, Accepted, Faulty, StopsWith, 
 use Rattle.query.specs.Statements.{FaultyRecord, Unended, Ended}
 use Rattle.query.proofs.Conditions.{FaultNumber, two, three, four, five, seven, eleven, fault-number}
 use Rattle.query.proofs.Conditions.{fault-splits, query-sound}
+use Rattle.query.proofs.Asking.{last-is-end}
 use Rattle.query.proofs.Fits.{state-is}
 use Rattle.query.proofs.Whole.{whole-at-end, at-end-whole, whole-numbers}
 
@@ -50,24 +51,10 @@ faulty-number-is s rs (Walking.wrong {r = r} w y e d) =
 no-zero : {n : ℕ} → FaultNumber n → n ≡ 0 → ⊥
 no-zero f z = ⊎-elim (λ p. absurd (omega arith)) (λ p. absurd (omega arith)) (fault-splits f)
 
--- the last record is kind 10
-last-is-end : (r : Record) → isEnd r ≡ true → r ≡ End
-unfolding isEnd
-last-is-end (Attribute id kind) e = absurd (yes-no e refl)
-last-is-end (Object number set) e = absurd (yes-no e refl)
-last-is-end (Dependency left right) e = absurd (yes-no e refl)
-last-is-end (Row object c0 c1 c2 c3 c4 c5) e = absurd (yes-no e refl)
-last-is-end (Declared set) e = absurd (yes-no e refl)
-last-is-end (Removed set) e = absurd (yes-no e refl)
-last-is-end (Item v a) e = absurd (yes-no e refl)
-last-is-end (CompareTwo v a operator v2 a2) e = absurd (yes-no e refl)
-last-is-end (CompareConstant v a operator cell) e = absurd (yes-no e refl)
-last-is-end End e = refl
-
 -- ---- after a walk
 
 -- the outcome that a walk's stop gives
-after : Scheme → List ℕ → Stop (List Record) → Outcome
+pub after : Scheme → List ℕ → Stop (List Record) → Outcome
 after s Ms w =
     elim (eqb (w .number) 0) [
       | true ↦ atEnd (wholeNumber s Ms (askedOf (w .state))) (w .state) (w .at)
@@ -75,20 +62,20 @@ after s Ms w =
     ]
 
 module _ (s : Scheme) (Ms : List ℕ) where
-  after-fault : (w : Stop (List Record)) → (w .number ≡ 0 → ⊥) → after s Ms w ≡ refusedWith (w .number) (w .state)
+  pub after-fault : (w : Stop (List Record)) → (w .number ≡ 0 → ⊥) → after s Ms w ≡ refusedWith (w .number) (w .state)
   unfolding after
   after-fault w d = rw (after, ne-eqb (w .number) 0 d)
 
-  after-end : (w : Stop (List Record)) → w .number ≡ 0
+  pub after-end : (w : Stop (List Record)) → w .number ≡ 0
       → after s Ms w ≡ atEnd (wholeNumber s Ms (askedOf (w .state))) (w .state) (w .at)
   unfolding after
   after-end w z = rw (after, eq-eqb (w .number) 0 z)
 
-end-fault : (n : ℕ) (rs : List Record) (at : ℕ) → (n ≡ 0 → ⊥) → atEnd n rs at ≡ refusedWith n rs
+pub end-fault : (n : ℕ) (rs : List Record) (at : ℕ) → (n ≡ 0 → ⊥) → atEnd n rs at ≡ refusedWith n rs
 unfolding atEnd
 end-fault n rs at d = rw (atEnd, ne-eqb n 0 d)
 
-end-good : (n : ℕ) (rs : List Record) (at : ℕ) → n ≡ 0 → atEnd n rs at ≡ record { number = 0; records = rs; read = at }
+pub end-good : (n : ℕ) (rs : List Record) (at : ℕ) → n ≡ 0 → atEnd n rs at ≡ record { number = 0; records = rs; read = at }
 unfolding atEnd
 end-good n rs at z = rw (atEnd, eq-eqb n 0 z)
 
@@ -124,7 +111,7 @@ module _ (s : Scheme) (Ms b : List ℕ) where
   unfolding read
   read-over h = rw (read, lt-ltb 65536 (length b) h)
 
-  read-within : length b ≤ 65536 → read s Ms b ≡ after s Ms (walkQuery s b)
+  pub read-within : length b ≤ 65536 → read s Ms b ≡ after s Ms (walkQuery s b)
   unfolding read after
   read-within h = rw (read, le-ltb 65536 (length b) h)
 

@@ -1,5 +1,6 @@
 -- The number of a whole query is what the paper's words say of its records.
--- In order: maximal objects that contain a set, a variable's X in no maximal object, the X of all variables, the number.
+-- In order: maximal objects that contain a set, a variable's X in no maximal object, the X of all variables, the
+-- number.
 -- Assumes nothing.
 use mathlib.Core.Path.{_≡_, refl, sym, ap, _∙_, subst}
 use mathlib.Core.Bool.{Bool, true, false, not}
@@ -24,7 +25,8 @@ use Rattle.query.specs.Asking.{itemsOf, attributesNamed, askedOf}
 use Rattle.query.specs.Reading.{containing, isNil, unconnected, someUnconnected, wholeNumber}
 use Rattle.query.specs.Accepting.{Contains, Unconnected, OfWhole, noItem, notConnected, good, Accepted}
 use Rattle.query.proofs.Names.{named-in, in-named}
-use Rattle.query.proofs.Fits.{Fits, accepted-records-fit, asked-at-end}
+use Rattle.query.proofs.Asking.{asked-end}
+use Rattle.query.proofs.Fits.{Fits, accepted-records-fit}
 
 -- ---- maximal objects that contain a set
 
@@ -180,7 +182,7 @@ whole-unique (good d c) (good d2 c2) = refl
 -- at the end of a query, behind accepted records
 module _ (s : Scheme) (Ms : List ℕ) {b : List ℕ} {rs : List Record} {at : ℕ} (a : Accepted s b rs at) where
   same-at-end : wholeNumber s Ms (askedOf (rs ++ End ∷ [])) ≡ wholeNumber s Ms (askedOf rs)
-  same-at-end = ap (wholeNumber s Ms) (asked-at-end rs)
+  same-at-end = ap (wholeNumber s Ms) (sym (asked-end rs))
 
   pub whole-at-end : OfWhole s Ms rs (wholeNumber s Ms (askedOf (rs ++ End ∷ [])))
   whole-at-end = subst (OfWhole s Ms rs) (sym same-at-end) (whole-means s Ms rs (accepted-records-fit s a))

@@ -83,17 +83,16 @@ first-unique (c ∷ cs) (inl p) (inr q) = absurd (q .0 (p .0))
 first-unique (c ∷ cs) (inr p) (inl q) = absurd (p .0 (q .0))
 first-unique (c ∷ cs) (inr p) (inr q) = first-unique cs (p .1) (q .1)
 
--- each number lies between low and high
-pub Between : ℕ → ℕ → List Condition → Type 0
-Between low high [] = Unit {0}
-Between low high (c ∷ cs) = ((low ≤ c .number) × (c .number ≤ high)) × Between low high cs
+-- P holds of the number of each condition
+unfoldable pub EachNumber : (ℕ → Type 0) → List Condition → Type 0
+EachNumber P [] = Unit {0}
+EachNumber P (c ∷ cs) = P (c .number) × EachNumber P cs
 
-pub first-between : (low high : ℕ) (cs : List Condition) (n : ℕ) → Between low high cs → First cs n → (n ≡ 0 → ⊥)
-    → (low ≤ n) × (n ≤ high)
-unfolding First Between
-first-between low high [] n b f d = absurd (d f)
-first-between low high (c ∷ cs) n b (inl f) d = subst (λ (x : ℕ). (low ≤ x) × (x ≤ high)) (sym (f .1)) (b .0)
-first-between low high (c ∷ cs) n b (inr f) d = first-between low high cs n (b .1) (f .1) d
+pub first-number : (P : ℕ → Type 0) (cs : List Condition) (n : ℕ) → EachNumber P cs → First cs n → (n ≡ 0 → ⊥) → P n
+unfolding First EachNumber
+first-number P [] n b f d = absurd (d f)
+first-number P (c ∷ cs) n b (inl f) d = subst P (sym (f .1)) (b .0)
+first-number P (c ∷ cs) n b (inr f) d = first-number P cs n (b .1) (f .1) d
 
 pub same-always : Same true (Unit {0})
 same-always = record { yes = λ e. tt; no = λ e u. yes-no refl e }

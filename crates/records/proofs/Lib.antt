@@ -3,5 +3,6 @@ pub mod Records
 pub mod Reader
 pub mod Checks
 pub mod Walking
+pub mod Gathered
 pub mod Theorems
 pub mod Examples
