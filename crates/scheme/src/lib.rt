@@ -36,8 +36,8 @@ pub struct Scheme {
     pub removals: usize,
 }
 
-// The first n of a list, or the whole list where it has fewer.
-fn first<'a>(list: &'a [u32], n: usize) -> &'a [u32]
+// The first n of a list, or the whole list where it has fewer: a list in an array, without the places behind it.
+pub fn first<'a>(list: &'a [u32], n: usize) -> &'a [u32]
     ensures { λ r. ⌜ now r ≡ take n (now (list .entry)) ⌝ }
 {
     if n < list.len() { &list[..n] } else { list }

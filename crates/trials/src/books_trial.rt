@@ -1,11 +1,13 @@
-// The books of standard input, a line each: a name, a colon, then the book's bytes in decimal, its records parted by
-// strokes. And two books at the bound of 65,536 bytes.
+// The books and queries of standard input, a line each: a name, a colon, then the bytes in decimal, the records parted by
+// strokes. A name with a question mark in front is a query's, one with an exclamation mark that of a query over a book of no
+// objects. And two books at the bound of 65,536 bytes.
+use crate::queries_trial;
 use crate::text;
 ghost use Prim.Native.Nat.{_≤_};
 ghost use lib.ListN.{length};
 
 // Reads a book and writes its name, and its refusal or how many rows and maximal objects it has.
-fn show(name: &[u8], bytes: &[u8]) {
+fn show_book(name: &[u8], bytes: &[u8]) {
     let mut directory = [0u32; 2520];
     let found = book::read(bytes, &mut directory);
     text::word(name);
@@ -19,6 +21,21 @@ fn show(name: &[u8], bytes: &[u8]) {
         text::number(found.maximals as u64);
     }
     text::put(b'\n');
+}
+
+// A book, or a query by the mark in front of its name.
+fn show(name: &[u8], bytes: &[u8]) {
+    let mut mark: u8 = 0;
+    if name.len() > 0 {
+        mark = name[0];
+    }
+    if mark == b'?' {
+        queries_trial::over_book(name, bytes);
+    } else if mark == b'!' {
+        queries_trial::over_bare(name, bytes);
+    } else {
+        show_book(name, bytes);
+    }
 }
 
 // Where byte b stands from a place on, or the end where it does not.

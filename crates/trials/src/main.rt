@@ -1,5 +1,6 @@
 // The trials that a program checks: what it writes is held to the file stdout, which is written from the paper.
 mod books_trial;
+mod queries_trial;
 mod text;
 mod values_trial;
 
@@ -13,4 +14,5 @@ fn main() {
     let n = io::read_full(STDIN_FILENO, &mut input);
     books_trial::books(&input[..n]);
     books_trial::full();
+    queries_trial::full();
 }

@@ -22,3 +22,8 @@ pub fn flag(b: bool) {
         put(b'0');
     }
 }
+
+// A set or a cell as a number to write.
+pub fn wide(n: u32) -> u64 {
+    n as u64
+}
