@@ -55,17 +55,19 @@ unfolding namesOf
 names-one-more = each-one-more nameOf namesOf (record { none = refl; more = λ r rs. refl })
 
 -- the end of the query asks nothing
-items-at-end : (rs : List Record) → itemsOf (rs ++ End ∷ []) ≡ itemsOf rs
+pub items-at-end : (rs : List Record) → itemsOf (rs ++ End ∷ []) ≡ itemsOf rs
 unfolding itemOf
 items-at-end rs = items-one-more rs End ∙ append-nil (itemsOf rs)
 
+pub comparisons-at-end : (rs : List Record) → comparisonsOf (rs ++ End ∷ []) ≡ comparisonsOf rs
+unfolding comparisonOf
+comparisons-at-end rs = comparisons-one-more rs End ∙ append-nil (comparisonsOf rs)
+
 pub asked-at-end : (rs : List Record) → askedOf (rs ++ End ∷ []) ≡ askedOf rs
-unfolding askedOf attributesNamed comparisonOf nameOf
+unfolding askedOf attributesNamed nameOf
 asked-at-end rs =
-    let i = items-at-end rs in
-    let c = comparisons-one-more rs End ∙ append-nil (comparisonsOf rs) in
     let n = names-one-more rs End ∙ append-nil (namesOf rs) in
-    rw (i, c, n)
+    rw (items-at-end rs, comparisons-at-end rs, n)
 
 -- ---- a record without a fault
 
@@ -90,6 +92,61 @@ name-in-range {v} {a} p q = record {
   attribute = omega (arith, ltb-false 31 a q);
 }
 
+-- item, comparison of two, comparison with a constant
+module _ (s : Scheme) (items comparisons v a : ℕ) where
+  item-fitting : faultOf s items comparisons (Item v a) ≡ 0 → Fitting items comparisons (Item v a)
+  unfolding faultOf checks itemOf comparisonOf
+  item-fitting e =
+      let p = none-first (leb 8 items) 4 _ (λ z. omega arith) e in
+      let q = none-first (ltb 3 v || ltb 31 a) 5 _ (λ z. omega arith) (p .1) in
+      let o = no-or (ltb 3 v) (ltb 31 a) (q .0) in
+      record {
+        itemsFit = λ h. omega (arith, leb-false 8 items (p .0));
+        comparisonsFit = λ h. omega arith;
+        namesFit = λ n. named n (name-in-range (o .0) (o .1));
+      }
+    where
+      named : {w b : ℕ} → Names w b (Item v a) → NameInRange v a → NameInRange w b
+      named item n = n
+
+  two-fitting : (operator v2 a2 : ℕ) → faultOf s items comparisons (CompareTwo v a operator v2 a2) ≡ 0
+      → Fitting items comparisons (CompareTwo v a operator v2 a2)
+  unfolding faultOf checks itemOf comparisonOf
+  two-fitting operator v2 a2 e =
+      let p = none-first (leb 16 comparisons) 4 _ (λ z. omega arith) e in
+      let q = none-first (ltb 3 v || (ltb 31 a || (ltb 5 operator || (ltb 3 v2 || ltb 31 a2)))) 5 _
+      (λ z. omega arith) (p .1) in
+      let x = no-or (ltb 3 v) (ltb 31 a || (ltb 5 operator || (ltb 3 v2 || ltb 31 a2))) (q .0) in
+      let y = no-or (ltb 31 a) (ltb 5 operator || (ltb 3 v2 || ltb 31 a2)) (x .1) in
+      let z = no-or (ltb 3 v2) (ltb 31 a2) (no-or (ltb 5 operator) (ltb 3 v2 || ltb 31 a2) (y .1) .1) in
+      record {
+        itemsFit = λ h. omega arith;
+        comparisonsFit = λ h. omega (arith, leb-false 16 comparisons (p .0));
+        namesFit = λ n. named n (name-in-range (x .0) (y .0)) (name-in-range (z .0) (z .1));
+      }
+    where
+      named : {w b : ℕ} → Names w b (CompareTwo v a operator v2 a2) → NameInRange v a → NameInRange v2 a2
+          → NameInRange w b
+      named left m n = m
+      named right m n = n
+
+  constant-fitting : (operator cell : ℕ) → faultOf s items comparisons (CompareConstant v a operator cell) ≡ 0
+      → Fitting items comparisons (CompareConstant v a operator cell)
+  unfolding faultOf checks itemOf comparisonOf
+  constant-fitting operator cell e =
+      let p = none-first (leb 16 comparisons) 4 _ (λ z. omega arith) e in
+      let q = none-first (ltb 3 v || (ltb 31 a || ltb 5 operator)) 5 _ (λ z. omega arith) (p .1) in
+      let x = no-or (ltb 3 v) (ltb 31 a || ltb 5 operator) (q .0) in
+      let y = no-or (ltb 31 a) (ltb 5 operator) (x .1) in
+      record {
+        itemsFit = λ h. omega arith;
+        comparisonsFit = λ h. omega (arith, leb-false 16 comparisons (p .0));
+        namesFit = λ n. named n (name-in-range (x .0) (y .0));
+      }
+    where
+      named : {w b : ℕ} → Names w b (CompareConstant v a operator cell) → NameInRange v a → NameInRange w b
+      named ofConstant n = n
+
 fitting : (s : Scheme) (items comparisons : ℕ) (r : Record) → faultOf s items comparisons r ≡ 0
     → Fitting items comparisons r
 unfolding faultOf checks itemOf comparisonOf
@@ -99,48 +156,10 @@ fitting s items comparisons (Dependency from to) e = other-faulty e
 fitting s items comparisons (Row object c0 c1 c2 c3 c4 c5) e = other-faulty e
 fitting s items comparisons (Declared set) e = other-faulty e
 fitting s items comparisons (Removed set) e = other-faulty e
-fitting s items comparisons (Item v a) e =
-    let p = none-first (leb 8 items) 4 _ (λ z. omega arith) e in
-    let q = none-first (ltb 3 v || ltb 31 a) 5 _ (λ z. omega arith) (p .1) in
-    let o = no-or (ltb 3 v) (ltb 31 a) (q .0) in
-    record {
-      itemsFit = λ h. omega (arith, leb-false 8 items (p .0));
-      comparisonsFit = λ h. omega arith;
-      namesFit = λ n. named n (name-in-range (o .0) (o .1));
-    }
-  where
-    named : {w b : ℕ} → Names w b (Item v a) → NameInRange v a → NameInRange w b
-    named item n = n
-fitting s items comparisons (CompareTwo v a operator v2 a2) e =
-    let p = none-first (leb 16 comparisons) 4 _ (λ z. omega arith) e in
-    let q = none-first (ltb 3 v || (ltb 31 a || (ltb 5 operator || (ltb 3 v2 || ltb 31 a2)))) 5 _
-    (λ z. omega arith) (p .1) in
-    let o = no-or (ltb 3 v) (ltb 31 a || (ltb 5 operator || (ltb 3 v2 || ltb 31 a2))) (q .0) in
-    let o1 = no-or (ltb 31 a) (ltb 5 operator || (ltb 3 v2 || ltb 31 a2)) (o .1) in
-    let o2 = no-or (ltb 3 v2) (ltb 31 a2) (no-or (ltb 5 operator) (ltb 3 v2 || ltb 31 a2) (o1 .1) .1) in
-    record {
-      itemsFit = λ h. omega arith;
-      comparisonsFit = λ h. omega (arith, leb-false 16 comparisons (p .0));
-      namesFit = λ n. named n (name-in-range (o .0) (o1 .0)) (name-in-range (o2 .0) (o2 .1));
-    }
-  where
-    named : {w b : ℕ} → Names w b (CompareTwo v a operator v2 a2) → NameInRange v a → NameInRange v2 a2
-        → NameInRange w b
-    named left m n = m
-    named right m n = n
+fitting s items comparisons (Item v a) e = item-fitting s items comparisons v a e
+fitting s items comparisons (CompareTwo v a operator v2 a2) e = two-fitting s items comparisons v a operator v2 a2 e
 fitting s items comparisons (CompareConstant v a operator cell) e =
-    let p = none-first (leb 16 comparisons) 4 _ (λ z. omega arith) e in
-    let q = none-first (ltb 3 v || (ltb 31 a || ltb 5 operator)) 5 _ (λ z. omega arith) (p .1) in
-    let o = no-or (ltb 3 v) (ltb 31 a || ltb 5 operator) (q .0) in
-    let o1 = no-or (ltb 31 a) (ltb 5 operator) (o .1) in
-    record {
-      itemsFit = λ h. omega arith;
-      comparisonsFit = λ h. omega (arith, leb-false 16 comparisons (p .0));
-      namesFit = λ n. named n (name-in-range (o .0) (o1 .0));
-    }
-  where
-    named : {w b : ℕ} → Names w b (CompareConstant v a operator cell) → NameInRange v a → NameInRange w b
-    named ofConstant n = n
+    constant-fitting s items comparisons v a operator cell e
 fitting s items comparisons End e = record {
   itemsFit = λ h. omega arith;
   comparisonsFit = λ h. omega arith;
