@@ -123,7 +123,8 @@ trials =
       gives = asks (good ++ End ∷ []);
       says =
           (3 ∷ 2 ∷ []) ∷ (0 ∷ 2 ∷ 1 ∷ 3 ∷ 0 ∷ 0 ∷ 0 ∷ 0 ∷ []) ∷ (7 ∷ 24 ∷ 0 ∷ 0 ∷ [])
-          ∷ (0 ∷ 1 ∷ 3 ∷ 0 ∷ 1 ∷ 4 ∷ 0 ∷ []) ∷ (1 ∷ 3 ∷ 5 ∷ 1 ∷ 0 ∷ 0 ∷ 12345 ∷ []) ∷ (0 ∷ 0 ∷ 0 ∷ 0 ∷ 0 ∷ 0 ∷ 0 ∷ []) ∷ [];
+          ∷ (0 ∷ 1 ∷ 3 ∷ 0 ∷ 1 ∷ 4 ∷ 0 ∷ []) ∷ (1 ∷ 3 ∷ 5 ∷ 1 ∷ 0 ∷ 0 ∷ 12345 ∷ [])
+          ∷ (0 ∷ 0 ∷ 0 ∷ 0 ∷ 0 ∷ 0 ∷ 0 ∷ []) ∷ [];
     }
     -- "a query ends at its first kind 10, and bytes after that aren't read"
     ∷ answers (unendedQuery (Item 0 0 ∷ End ∷ Attribute 5 0 ∷ Item 4 31 ∷ [])) 4
@@ -198,9 +199,9 @@ trials =
     ∷ []
 
 pub trials-hold : map (λ t. t .gives) trials ≡ map (λ t. t .says) trials
-unfolding trials book maximals good eightOfTwo eightWithConstant eightItems resultOf result fieldsOf askedBy asks flatMap
-    queryOf read atEnd wholeNumber someUnconnected unconnected isNil containing walkQuery isEnd faultOf checks ofQuery
-    askedOf filled attributesNamed naming namesOf nameOf comparisonsOf comparisonOf itemsOf itemOf shortNumber walkFrom
-    walk firstOf readAt readFront recordOf bodies bytesOfAll bytesOf bodyLength bodyLengths isKind field value bytes
+unfolding trials book maximals good eightOfTwo eightWithConstant eightItems resultOf result fieldsOf askedBy asks
+    flatMap queryOf read atEnd wholeNumber someUnconnected unconnected isNil containing walkQuery isEnd faultOf checks
+    ofQuery askedOf filled attributesNamed naming namesOf nameOf comparisonsOf comparisonOf itemsOf itemOf shortNumber
+    walkFrom walk firstOf readAt readFront recordOf bodies bytesOfAll bytesOf bodyLength bodyLengths isKind field value bytes
     attributesOf familyOf union allows inRange members isEmpty single _∪_ within has bit
 trials-hold = refl

@@ -1,5 +1,6 @@
 -- The number of a whole query is what the paper's words say of its records.
--- In order: maximal objects that contain a set, a variable's X in no maximal object, the X of all variables, the number.
+-- In order: maximal objects that contain a set, a variable's X in no maximal object, the X of all variables, the
+-- number.
 -- Assumes nothing.
 use mathlib.Core.Path.{_≡_, refl, sym, ap, _∙_, subst}
 use mathlib.Core.Bool.{Bool, true, false, not}
