@@ -202,6 +202,6 @@ pub trials-hold : map (λ t. t .gives) trials ≡ map (λ t. t .says) trials
 unfolding trials book maximals good eightOfTwo eightWithConstant eightItems resultOf result fieldsOf askedBy asks
     flatMap queryOf read atEnd wholeNumber someUnconnected unconnected isNil containing walkQuery isEnd faultOf checks
     ofQuery askedOf filled attributesNamed naming namesOf nameOf comparisonsOf comparisonOf itemsOf itemOf shortNumber
-    walkFrom walk firstOf readAt readFront recordOf bodies bytesOfAll bytesOf bodyLength bodyLengths isKind field value bytes
-    attributesOf familyOf union allows inRange members isEmpty single _∪_ within has bit
+    walkFrom walk firstOf readAt readFront recordOf bodies bytesOfAll bytesOf bodyLength bodyLengths isKind field
+    value bytes attributesOf familyOf union allows inRange members isEmpty single _∪_ within has bit
 trials-hold = refl
