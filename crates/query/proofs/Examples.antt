@@ -1,5 +1,5 @@
 -- Worked examples: what reading gives beside what the paper says, in one list under one theorem.
--- In order: the scheme of a book, a good query, comparisons, results, the trials.
+-- In order: the scheme of a book, a good query, as many records as the bounds allow, results, the trials.
 -- Assumes nothing.
 use mathlib.Core.Path.{_≡_, refl}
 use mathlib.Core.Bool.{true, false}
@@ -55,7 +55,7 @@ maximals = 3 ∷ 4 ∷ []
 unfoldable pub good : List Record
 good = Item 0 2 ∷ CompareTwo 0 1 3 1 4 ∷ Item 1 3 ∷ CompareConstant 1 3 5 12345 ∷ Item 0 0 ∷ []
 
--- ---- comparisons: eight of each kind
+-- ---- as many records as the bounds allow: comparisons, eight of each kind, and eight items
 
 unfoldable pub eightOfTwo : List Record
 eightOfTwo =
@@ -123,7 +123,8 @@ trials =
       gives = asks (good ++ End ∷ []);
       says =
           (3 ∷ 2 ∷ []) ∷ (0 ∷ 2 ∷ 1 ∷ 3 ∷ 0 ∷ 0 ∷ 0 ∷ 0 ∷ []) ∷ (7 ∷ 24 ∷ 0 ∷ 0 ∷ [])
-          ∷ (0 ∷ 1 ∷ 3 ∷ 0 ∷ 1 ∷ 4 ∷ 0 ∷ []) ∷ (1 ∷ 3 ∷ 5 ∷ 1 ∷ 0 ∷ 0 ∷ 12345 ∷ []) ∷ (0 ∷ 0 ∷ 0 ∷ 0 ∷ 0 ∷ 0 ∷ 0 ∷ []) ∷ [];
+          ∷ (0 ∷ 1 ∷ 3 ∷ 0 ∷ 1 ∷ 4 ∷ 0 ∷ []) ∷ (1 ∷ 3 ∷ 5 ∷ 1 ∷ 0 ∷ 0 ∷ 12345 ∷ [])
+          ∷ (0 ∷ 0 ∷ 0 ∷ 0 ∷ 0 ∷ 0 ∷ 0 ∷ []) ∷ [];
     }
     -- "a query ends at its first kind 10, and bytes after that aren't read"
     ∷ answers (unendedQuery (Item 0 0 ∷ End ∷ Attribute 5 0 ∷ Item 4 31 ∷ [])) 4

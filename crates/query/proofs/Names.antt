@@ -71,7 +71,8 @@ comparisons-gathered (r ∷ rs) = more r (comparisons-gathered rs)
     more (Attribute id kind) g = passedOver (no-comparison (Attribute id kind) (λ l u. omega arith)) g
     more (Object number set) g = passedOver (no-comparison (Object number set) (λ l u. omega arith)) g
     more (Dependency from to) g = passedOver (no-comparison (Dependency from to) (λ l u. omega arith)) g
-    more (Row object c0 c1 c2 c3 c4 c5) g = passedOver (no-comparison (Row object c0 c1 c2 c3 c4 c5) (λ l u. omega arith)) g
+    more (Row object c0 c1 c2 c3 c4 c5) g =
+        passedOver (no-comparison (Row object c0 c1 c2 c3 c4 c5) (λ l u. omega arith)) g
     more (Declared set) g = passedOver (no-comparison (Declared set) (λ l u. omega arith)) g
     more (Removed set) g = passedOver (no-comparison (Removed set) (λ l u. omega arith)) g
     more (Item v a) g = passedOver (no-comparison (Item v a) (λ l u. omega arith)) g

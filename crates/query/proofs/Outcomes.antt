@@ -148,7 +148,8 @@ module _ (s : Scheme) (Ms b : List ℕ) where
           ∙ ap (λ (k : ℕ). atEnd k (rs ++ End ∷ []) next) (at-end-whole s Ms a w)
           ∙ end-fault n (rs ++ End ∷ []) next d
       by (answered {rs} {at} {next} a e w) =
-          walk-at-end a e ∙ end-good (wholeNumber s Ms (askedOf (rs ++ End ∷ []))) (rs ++ End ∷ []) next (at-end-whole s Ms a w)
+          walk-at-end a e
+          ∙ end-good (wholeNumber s Ms (askedOf (rs ++ End ∷ []))) (rs ++ End ∷ []) next (at-end-whole s Ms a w)
 
 -- ---- where its number comes from
 
@@ -180,7 +181,9 @@ module _ (s : Scheme) (Ms b : List ℕ) where
     pub ended-number : {n : ℕ} → Ended s Ms b n → read s Ms b .number ≡ n
     ended-number {n} w =
         ⊎-elim
-        (λ z. number-stops (answered (w .accepted) (w .atKindTen) (subst (OfWhole s Ms (w .passed)) z (w .whole))) ∙ sym z)
+        (λ z.
+        let v = subst (OfWhole s Ms (w .passed)) z (w .whole) in
+        number-stops (answered (w .accepted) (w .atKindTen) v) ∙ sym z)
         (λ d. number-stops (refused (w .accepted) (w .atKindTen) (w .whole) d)) (eq-or-ne n 0)
 
 -- ---- which numbers there are

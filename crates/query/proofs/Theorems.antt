@@ -2,20 +2,21 @@
 -- Assumes nothing.
 use mathlib.Core.Path.{sym, _∙_, subst}
 use mathlib.Core.Logic.{⊎-elim}
-use mathlib.Core.List.{List}
+use mathlib.Core.List.{List, [], _∷_, _++_}
 use Prim.Native.Nat.{ℕ}
 use native.Mathlib.Omega.{arith}
 use lib.ListN.{length}
 use Rattle.sets.proofs.Numbers.{lt-or-le}
 use Rattle.records.specs.Checks.{First}
 use Rattle.records.specs.declared.Record.{Record}
+use Rattle.records.specs.declared.Record.the-variants.{End}
 use Rattle.scheme.specs.declared.Scheme.{Scheme}
 use Rattle.query.specs.Conditions.{conditions}
 use Rattle.query.specs.Accepting.{StopsWith}
 use Rattle.query.specs.Statements.{FaultMeans, RecordsAsk, ContainingList, ReadExactly, AcceptedFits, NumberMeans}
 use Rattle.query.proofs.Conditions.{three, fault-first, first-fault}
 use Rattle.query.proofs.Names.{items-gathered, comparisons-gathered, named-in, in-named, asked-whole}
-use Rattle.query.proofs.Fits.{accepted-records-fit}
+use Rattle.query.proofs.Fits.{items-at-end, comparisons-at-end, accepted-records-fit}
 use Rattle.query.proofs.Whole.{containing-only, containing-has, containing-ordered}
 use Rattle.query.proofs.Outcomes.{read-over, read-stops, stops-read, faulty-number, unended-number, ended-number}
 use Rattle.query.proofs.Outcomes.{number-over, number-within, number-not-one, number-one-of, number-of-record}
@@ -59,6 +60,10 @@ read-exactly s Ms b = record {
 pub accepted-fits : (s : Scheme) (b : List ℕ) → AcceptedFits s b
 accepted-fits s b = record {
   asks = λ rs at a. let w = accepted-records-fit s a in asked-whole rs (w .items) (w .comparisons);
+  ends = λ rs at a.
+      let w = accepted-records-fit s a in
+      asked-whole (rs ++ End ∷ []) (rw items-at-end (w .items)) (rw comparisons-at-end (w .comparisons));
+  named = λ rs at v a k n. let w = accepted-records-fit s k .named n in (w .variable, w .attribute);
 }
 
 -- ---- the number

@@ -72,6 +72,10 @@ pub record ReadExactly (s : Scheme) (Ms b : List ℕ) : Type 0 where
 -- what accepted records ask fits: "items 1 to 8; comparisons 0 to 16 in all"
 pub record AcceptedFits (s : Scheme) (b : List ℕ) : Type 0 where
   pub asks : (rs : List Record) (at : ℕ) → Accepted s b rs at → AskedWhole rs
+  -- also with kind 10 behind them
+  pub ends : (rs : List Record) (at : ℕ) → Accepted s b rs at → AskedWhole (rs ++ End ∷ [])
+  -- "variables 0 to 3"; "attribute, id 0..31"
+  pub named : (rs : List Record) (at v a : ℕ) → Accepted s b rs at → NamedIn rs v a → (v < 4) × (a < 32)
 
 -- ---- the number
 
