@@ -118,6 +118,15 @@ pub comparisons-more : (rs : List Record) (r : Record)
 unfolding comparisonsOf
 comparisons-more = each-more comparisonOf comparisonsOf (record { none = refl; more = λ r rs. refl })
 
+-- the end of a query asks nothing
+pub items-at-end : (rs : List Record) → itemsOf (rs ++ End ∷ []) ≡ itemsOf rs
+unfolding itemOf
+items-at-end rs = items-more rs End ∙ append-nil (itemsOf rs)
+
+pub comparisons-at-end : (rs : List Record) → comparisonsOf (rs ++ End ∷ []) ≡ comparisonsOf rs
+unfolding comparisonOf
+comparisons-at-end rs = comparisons-more rs End ∙ append-nil (comparisonsOf rs)
+
 names-more : (rs : List Record) (r : Record) → namesOf (rs ++ r ∷ []) ≡ namesOf rs ++ nameOf r
 unfolding namesOf
 names-more = each-more nameOf namesOf (record { none = refl; more = λ r rs. refl })

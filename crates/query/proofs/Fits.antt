@@ -45,61 +45,6 @@ other-faulty e = absurd (yes-no refl (none-first true 2 [] (λ z. omega arith) e
 name-in-range : {before bound v a : ℕ} → NewName before bound v a → NameInRange v a
 name-in-range n = record { variable = n .variable; attribute = n .attribute }
 
--- item, comparison of two, comparison with a constant
-module _ (s : Scheme) (items comparisons v a : ℕ) where
-  item-fitting : faultOf s items comparisons (Item v a) ≡ 0 → Fitting items comparisons (Item v a)
-  unfolding faultOf checks itemOf comparisonOf
-  item-fitting e =
-      let p = none-first (leb 8 items) 4 _ (λ z. omega arith) e in
-      let q = none-first (ltb 3 v || ltb 31 a) 5 _ (λ z. omega arith) (p .1) in
-      let o = no-or (ltb 3 v) (ltb 31 a) (q .0) in
-      record {
-        itemsFit = λ h. omega (arith, leb-false 8 items (p .0));
-        comparisonsFit = λ h. omega arith;
-        namesFit = λ n. named n (name-in-range (o .0) (o .1));
-      }
-    where
-      named : {w b : ℕ} → Names w b (Item v a) → NameInRange v a → NameInRange w b
-      named item n = n
-
-  two-fitting : (operator v2 a2 : ℕ) → faultOf s items comparisons (CompareTwo v a operator v2 a2) ≡ 0
-      → Fitting items comparisons (CompareTwo v a operator v2 a2)
-  unfolding faultOf checks itemOf comparisonOf
-  two-fitting operator v2 a2 e =
-      let p = none-first (leb 16 comparisons) 4 _ (λ z. omega arith) e in
-      let q = none-first (ltb 3 v || (ltb 31 a || (ltb 5 operator || (ltb 3 v2 || ltb 31 a2)))) 5 _
-      (λ z. omega arith) (p .1) in
-      let x = no-or (ltb 3 v) (ltb 31 a || (ltb 5 operator || (ltb 3 v2 || ltb 31 a2))) (q .0) in
-      let y = no-or (ltb 31 a) (ltb 5 operator || (ltb 3 v2 || ltb 31 a2)) (x .1) in
-      let z = no-or (ltb 3 v2) (ltb 31 a2) (no-or (ltb 5 operator) (ltb 3 v2 || ltb 31 a2) (y .1) .1) in
-      record {
-        itemsFit = λ h. omega arith;
-        comparisonsFit = λ h. omega (arith, leb-false 16 comparisons (p .0));
-        namesFit = λ n. named n (name-in-range (x .0) (y .0)) (name-in-range (z .0) (z .1));
-      }
-    where
-      named : {w b : ℕ} → Names w b (CompareTwo v a operator v2 a2) → NameInRange v a → NameInRange v2 a2
-          → NameInRange w b
-      named left m n = m
-      named right m n = n
-
-  constant-fitting : (operator cell : ℕ) → faultOf s items comparisons (CompareConstant v a operator cell) ≡ 0
-      → Fitting items comparisons (CompareConstant v a operator cell)
-  unfolding faultOf checks itemOf comparisonOf
-  constant-fitting operator cell e =
-      let p = none-first (leb 16 comparisons) 4 _ (λ z. omega arith) e in
-      let q = none-first (ltb 3 v || (ltb 31 a || ltb 5 operator)) 5 _ (λ z. omega arith) (p .1) in
-      let x = no-or (ltb 3 v) (ltb 31 a || ltb 5 operator) (q .0) in
-      let y = no-or (ltb 31 a) (ltb 5 operator) (x .1) in
-      record {
-        itemsFit = λ h. omega arith;
-        comparisonsFit = λ h. omega (arith, leb-false 16 comparisons (p .0));
-        namesFit = λ n. named n (name-in-range (x .0) (y .0));
-      }
-    where
-      named : {w b : ℕ} → Names w b (CompareConstant v a operator cell) → NameInRange v a → NameInRange w b
-      named ofConstant n = n
-
 fitting : (s : Scheme) (items comparisons : ℕ) (r : Record) → faultOf s items comparisons r ≡ 0
     → Fitting items comparisons r
 unfolding faultOf checks itemOf comparisonOf

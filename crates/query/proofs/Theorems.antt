@@ -16,7 +16,8 @@ use Rattle.query.specs.Accepting.{StopsWith}
 use Rattle.query.specs.Statements.{FaultMeans, RecordsAsk, ContainingList, ReadExactly, AcceptedFits, NumberMeans}
 use Rattle.query.proofs.Conditions.{three, fault-first, first-fault}
 use Rattle.query.proofs.Names.{items-gathered, comparisons-gathered, named-in, in-named, asked-whole}
-use Rattle.query.proofs.Fits.{items-at-end, comparisons-at-end, accepted-records-fit}
+use Rattle.query.proofs.Asking.{items-at-end, comparisons-at-end}
+use Rattle.query.proofs.Fits.{accepted-records-fit}
 use Rattle.query.proofs.Whole.{containing-only, containing-has, containing-ordered}
 use Rattle.query.proofs.Outcomes.{read-over, read-stops, stops-read, faulty-number, unended-number, ended-number}
 use Rattle.query.proofs.Outcomes.{number-over, number-within, number-not-one, number-one-of, number-of-record}

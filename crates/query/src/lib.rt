@@ -68,7 +68,6 @@ fn item_fault(s: Scheme, retrieved: usize, compared: usize, variable: u8, attrib
     0
 }
 
-// The fault of one side of a comparison: its variable or its attribute.
 fn two_fault(
     s: Scheme,
     retrieved: usize,
@@ -244,6 +243,7 @@ fn with_comparison(mut q: Asked, c: Comparison) -> Asked
     q
 }
 
+// A comparison of two more, and one with a constant, with the attributes that it names.
 fn with_two(
     q: Asked,
     variable: u8,

@@ -1,6 +1,7 @@
 -- The names that docs/STATEMENTS.md gives. A name that is only imported is refused here once it is gone; a theorem that
 -- stands below as a typed line is refused as soon as it says something else, too.
--- In order: contracts and theorems, imported; then as typed lines demand 2 for books, demand 3, the comparison table.
+-- In order: contracts and theorems, imported; then as typed lines demand 2 for books and for queries, demand 3, the
+-- comparison table.
 -- Assumes nothing.
 use mathlib.Core.Path.{_≡_}
 use mathlib.Core.List.{List}
@@ -14,6 +15,7 @@ use Rattle.relation.specs.Demand3.{Demand3}
 use Rattle.records.specs.declared.Record.{Record}
 use Rattle.scheme.specs.declared.Scheme.{Scheme}
 use Rattle.values.specs.Statements.{TableAllows}
+use Rattle.query.specs.Statements as QueryStatements
 use Rattle.book.specs.Reading.{Outcome}
 use Rattle.book.specs.Accepting.{Accepted}
 use Rattle.book.specs.Statements.{FaultMeans, ReadExactly, NumberMeans, AcceptedSay, RowInBytes, MaximalObjectsRead}
@@ -53,6 +55,7 @@ use Rattle.reduction.proofs.is_acyclic.Met.{met as reduction-is-acyclic}
 use Rattle.relation.proofs.cell.Met.{met as relation-cell}
 use Rattle.relation.proofs.rows_match.Met.{met as relation-rows-match}
 use Rattle.relation.proofs.rows_equal.Met.{met as relation-rows-equal}
+use Rattle.scheme.proofs.first.Met.{met as scheme-first}
 use Rattle.scheme.proofs.closure.Met.{met as scheme-closure}
 use Rattle.scheme.proofs.family_of.Met.{met as scheme-family-of}
 use Rattle.scheme.proofs.attributes_of.Met.{met as scheme-attributes-of}
@@ -60,12 +63,13 @@ use Rattle.scheme.proofs.grow.Met.{met as scheme-grow}
 use Rattle.scheme.proofs.computed.Met.{met as scheme-computed}
 use Rattle.scheme.proofs.maximal_objects.Met.{met as scheme-maximal-objects}
 use Rattle.book.proofs.read.Met.{met as book-read}
+use Rattle.query.proofs.read.Met.{met as query-read}
 -- ---- theorems
 use Rattle.sets.proofs.Theorems.{members-of-sets, equal-sets, containment, rank-and-count, lowest-member}
 use Rattle.sets.proofs.Theorems.{members-listed}
 use Rattle.values.proofs.Theorems.{ordered-by-value, operators-mean, table-allows, allowed-means, turned}
 use Rattle.values.proofs.Examples.{trials-hold as values-trials-hold}
-use Rattle.records.proofs.Theorems.{fields-inverse, kind-then-body, reads-back, was-written, answers-mean}
+use Rattle.records.proofs.Theorems.{fields-inverse, kind-then-body, reads-back, was-written, answers-mean, walk-exactly}
 use Rattle.records.proofs.Examples.{examples-written, examples-read}
 use Rattle.reduction.proofs.Theorems.{node-form-permits, cover-form-permits, steps-in-family, step-leaves}
 use Rattle.reduction.proofs.Theorems.{kept-by-every-list, cover-order, reduces-to-nothing, kept-set-laws}
@@ -86,6 +90,9 @@ use Rattle.book.proofs.Theorems.{maximal-objects-read, tables-of-book, maximal-
 use Rattle.book.proofs.Examples.{trials-hold as book-trials-hold, layouts-hold}
 use Rattle.relation.proofs.Examples.{trials-hold, each-may-stand, paired-agree, survey-disagrees, empty-tables-agree}
 use Rattle.relation.proofs.Examples.{leads-and-no-trips-disagree, apart-disagrees}
+use Rattle.query.proofs.Theorems as Queries
+use Rattle.query.proofs.Theorems.{records-ask, containing-is-the-list, accepted-fits}
+use Rattle.query.proofs.Examples.{trials-hold as query-trials-hold}
 use Rattle.trials.proofs.Starred.{starred-hold}
 
 -- ---- demand 2 for books
@@ -113,6 +120,23 @@ tables-of-a-book = tables-of-book
 -- "The maximal objects .. are exactly those of the definitions"
 pub maximal-objects-of-a-book : (b : List ℕ) → MaximalObjectsRead b
 maximal-objects-of-a-book = maximal-objects-read
+
+-- ---- demand 2 for queries: over every scheme and every list of maximal objects
+
+pub refusals-of-a-query-record : (s : Scheme) (items comparisons : ℕ) (r : Record) → QueryStatements.FaultMeans s items
+    comparisons r
+refusals-of-a-query-record = Queries.fault-means
+
+pub refusals-of-a-query : (s : Scheme) (Ms b : List ℕ)
+    → QueryStatements.ReadExactly s Ms b × QueryStatements.NumberMeans s Ms b
+refusals-of-a-query s Ms b = (Queries.read-exactly s Ms b, Queries.number-means s Ms b)
+
+-- what a query asks is what its records say
+pub query-of-its-records : (rs : List Record) → QueryStatements.RecordsAsk rs
+query-of-its-records = records-ask
+
+pub maximal-objects-that-contain : (sets Ms : List ℕ) (X : ℕ) → QueryStatements.ContainingList sets Ms X
+maximal-objects-that-contain = containing-is-the-list
 
 -- ---- demand 3
 

@@ -1,5 +1,5 @@
 -- The starred trials of the paper, in one list under one theorem: what the definitions give beside what the paper says.
--- Those of queries are not here yet.
+-- The answers to the three queries of the printout are not here yet.
 -- In order: the books, the trials.
 -- Assumes nothing.
 use mathlib.Core.Path.{_≡_, refl}
@@ -14,7 +14,7 @@ use Rattle.records.specs.Reader.{bodies, recordOf, readFront, readAt}
 use Rattle.records.specs.Checks.{firstOf}
 use Rattle.records.specs.Walking.{shortNumber, walkFrom, walk}
 use Rattle.records.specs.declared.Record.{Record}
-use Rattle.records.specs.declared.Record.the-variants.{Attribute, Object, Dependency}
+use Rattle.records.specs.declared.Record.the-variants.{Attribute, Object, Dependency, Item, End}
 use Rattle.reduction.specs.Kept.{union, around, someHolds, removable, stays, staying, settle, left, acyclic}
 use Rattle.reduction.specs.Kept.{goesFor, goes, keeps, keptOf, kept}
 use Rattle.relation.specs.Tables.{cellOf}
@@ -30,6 +30,13 @@ use Rattle.book.specs.Reading.{Outcome, isRow, withRow, records, lastNumber, la
 use Rattle.book.specs.Reading.{read}
 use Rattle.book.specs.Reading.{maximalsOf}
 use Rattle.book.proofs.Examples.{survey, ring}
+use Rattle.values.specs.Operators.{allows}
+use Rattle.query.specs.Asking.{itemOf, itemsOf, comparisonOf, comparisonsOf, nameOf, namesOf, naming, attributesNamed}
+use Rattle.query.specs.Asking.{filled, askedOf}
+use Rattle.query.specs.Faults as Queries
+use Rattle.query.specs.Faults.{ofQuery}
+use Rattle.query.specs.Reading as Query
+use Rattle.query.specs.Reading.{isEnd, walkQuery, containing, isNil, unconnected, someUnconnected, wholeNumber, atEnd}
 
 -- ---- the books
 
@@ -45,6 +52,12 @@ banking =
 -- the number that a book is refused with or 0, and how many objects each maximal object has
 unfoldable pub sizes : List Record → List ℕ
 sizes rs = let o : Outcome = read (bytesOfAll rs) in o .number ∷ map (count 32) (maximalsOf o)
+
+-- the number that a query over a book is refused with, or 0
+unfoldable pub refusal : List Record → List Record → List ℕ
+refusal book query =
+    let o : Outcome = read (bytesOfAll book) in
+    Query.read (o .scheme) (maximalsOf o) (bytesOfAll query) .number ∷ []
 
 -- ---- the trials
 
@@ -62,10 +75,17 @@ starred =
     ∷ record { gives = sizes (ring ++ Object 3 7 ∷ []); says = 0 ∷ 4 ∷ [] }  -- "With object ABC also: accepted."
     ∷ record { gives = sizes survey; says = 0 ∷ 3 ∷ [] }  -- the book of the three queries: one maximal object of all three
     ∷ record { gives = sizes []; says = 0 ∷ [] }  -- an empty book is good
+    -- "No objects: an item on a declared attribute is 12."
+    ∷ record { gives = refusal (Attribute 0 0 ∷ []) (Item 0 0 ∷ End ∷ []); says = 12 ∷ [] }
+    -- "Only kind 10: 10."
+    ∷ record { gives = refusal survey (End ∷ []); says = 10 ∷ [] }
     ∷ []
 
 pub starred-hold : map (λ t. t .gives) starred ≡ map (λ t. t .says) starred
-unfolding starred banking sizes survey ring read afterLast lastFault lastNumber records walk walkFrom shortNumber
+unfolding refusal Query.read atEnd wholeNumber someUnconnected unconnected isNil containing walkQuery isEnd
+    Queries.faultOf Queries.checks ofQuery askedOf filled attributesNamed naming namesOf nameOf comparisonsOf comparisonOf
+    itemsOf itemOf allows starred banking sizes survey ring read afterLast lastFault lastNumber records walk walkFrom
+    shortNumber
     withRow isRow maximalsOf declare withRemoved withDeclared withDependency withObject withAttribute nothingDeclared
     faultOf checks
     maximalChecks rowChecks wrongCells someOutside someNonZero firstOf ofBook cyclicOf unmatchedOf maximalOf computedOf

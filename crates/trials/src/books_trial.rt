@@ -1,6 +1,6 @@
-// The books and queries of standard input, a line each: a name, a colon, then the bytes in decimal, the records parted by
-// strokes. A name with a question mark in front is a query's, one with an exclamation mark that of a query over a book of no
-// objects. And two books at the bound of 65,536 bytes.
+// The books and queries of standard input, a line each: a name, a colon, then the bytes in decimal, the records parted
+// by strokes. A name with a question mark in front is a query's, one with an exclamation mark that of a query over a
+// book of no objects. And two books at the bound of 65,536 bytes.
 use crate::queries_trial;
 use crate::text;
 ghost use Prim.Native.Nat.{_≤_};

@@ -2,8 +2,8 @@
 use crate::text;
 use query::Query;
 
-// Attributes 0 name, 1 length, 2 angle, 3 date, 4 length; objects 0 {0,1}, 1 {0,2}, 2 {3,4}; 0 determines 2. Its maximal
-// objects are one of objects 0 and 1 and one of object 2.
+// Attributes 0 name, 1 length, 2 angle, 3 date, 4 length; objects 0 {0,1}, 1 {0,2}, 2 {3,4}; 0 determines 2. Its
+// maximal objects are one of objects 0 and 1 and one of object 2.
 const BOOK: [u8; 42] = [
     1,
     0,
@@ -52,7 +52,8 @@ const BOOK: [u8; 42] = [
 // One attribute and no object.
 const BARE: [u8; 3] = [1, 0, 0];
 
-// What a query asks, or its refusal: the items and comparisons, the attributes named with each variable, the bytes read.
+// What a query asks, or its refusal: the items and comparisons, the attributes named with each variable, the bytes
+// read.
 fn show_query(q: Query) {
     if q.refusal != 0 {
         text::word(b": refused ");
