@@ -18,7 +18,7 @@ use Rattle.sets.proofs.Tests.{yes-no, yes-and, no-and, yes-or, no-or}
 use Rattle.sets.proofs.Bits.{in-out}
 use Rattle.sets.proofs.Sets.{yes-has, no-has}
 use Rattle.values.specs.Values.{inRange}
-use Rattle.records.specs.Checks.{Condition, First}
+use Rattle.records.specs.Checks.{First}
 use Rattle.records.specs.declared.Record.{Record}
 use Rattle.records.specs.declared.Record.the-variants.{Attribute, Object, Dependency, Row, Declared, Removed, Item}
 use Rattle.records.specs.declared.Record.the-variants.{CompareTwo, CompareConstant, End}

@@ -2,17 +2,16 @@
 -- first condition that holds.
 -- In order: each kind, the first, the numbers of faults, kinds of a query.
 -- Assumes nothing.
-use mathlib.Core.Path.{_≡_, refl, sym, subst}
+use mathlib.Core.Path.{_≡_, refl}
 use mathlib.Core.Bool.{false}
 use mathlib.Core.Logic.{_⊎_, inl, inr}
-use mathlib.Core.List.{List, [], _∷_}
 use Prim.Native.Nat.{ℕ, _≤_}
 use native.Mathlib.Omega.{arith}
 use borrow.Author.Tests.{leb-true, le-leb}
 use lib.Dec.{leb}
 use lib.ListN.{length}
 use Rattle.sets.proofs.Tests.{yes-no, not-yes, and-yes, yes-and}
-use Rattle.records.specs.Checks.{firstOf, Condition, First}
+use Rattle.records.specs.Checks.{firstOf, First}
 use Rattle.records.specs.Records.{isKind, kindOf}
 use Rattle.records.specs.Walking.{Sound}
 use Rattle.records.specs.declared.Record.{Record}

@@ -2,26 +2,24 @@
 -- In order: numbers where no whole record stands, the walk over the records, the search for a maximal object, the
 -- search for a variable, the ways out of reading.
 -- Assumes nothing.
-use mathlib.Core.Path.{_≡_, refl, sym, ap, ap₂, _∙_, subst}
+use mathlib.Core.Path.{_≡_, refl, sym, ap, ap₂, _∙_}
 use mathlib.Core.Bool.{Bool, true, false, not, _&&_, _||_}
 use mathlib.Core.List.{List, [], _∷_, _++_}
 use Prim.Native.Nat.{ℕ, _+_, _≤_, _<_}
 use native.Mathlib.Omega.{arith}
-use borrow.Author.Tests.{le-leb, lt-leb, eq-eqb, ne-eqb, lt-ltb, le-ltb, not-true, not-false}
-use lib.Dec.{eqb, leb}
+use borrow.Author.Tests.{le-leb, lt-leb, eq-eqb, ne-eqb, not-true, not-false}
+use lib.Dec.{leb}
 use lib.ListN.{length, getD}
 use types.Run.{OneOf, miss}
 use denote.Enum.Declared.{tagOf}
 use Rattle.sets.specs.Sets.{within, isEmpty}
-use Rattle.sets.proofs.Tests.{yes-no, and-yes, no-and, or-left, or-right, yes-or-no}
+use Rattle.sets.proofs.Tests.{and-yes}
 use Rattle.records.proofs.Reading.{the-type}
 use Rattle.records.specs.Reader.{readAt}
 use Rattle.records.specs.Walking as Walks
 use Rattle.records.specs.Walking.{Stop, shortNumber}
 use Rattle.records.proofs.Walking.{accepted-inside, stops-nothing, stops-unknown, stops-short, stops-last, stops-faulty}
 use Rattle.records.specs.declared.Record.{Record}
-use Rattle.records.specs.declared.Record.the-variants.{Attribute, Object, Dependency, Row, Declared, Removed, Item}
-use Rattle.records.specs.declared.Record.the-variants.{CompareTwo, CompareConstant, End}
 use Rattle.records.specs.declared.Reading.{Reading}
 use Rattle.records.specs.declared.Reading.the-variants.{Nothing, Unknown, Short, Found}
 use Rattle.scheme.specs.declared.Scheme.{Scheme}
@@ -34,7 +32,7 @@ use Rattle.query.specs.Asking.{itemsOf, comparisonsOf, askedOf, nothingA
 use Rattle.query.specs.Faults.{ofQuery, faultOf}
 use Rattle.query.specs.Reading.{isEnd, queryRules, walkQuery, stopNumber, walkedOf, containing, isNil}
 use Rattle.query.specs.Reading.{unconnected}
-use Rattle.query.specs.Reading.{someUnconnected, wholeNumber, Outcome, refusedWith, atEnd, read, queryOf}
+use Rattle.query.specs.Reading.{someUnconnected, wholeNumber, read, queryOf}
 use Rattle.query.proofs.Asking.{asked-nothing, asked-record, asked-end, last-is-end}
 use Rattle.query.proofs.Outcomes.{after-fault, after-end, end-fault, end-good, read-over, read-within}
 

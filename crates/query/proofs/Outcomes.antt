@@ -10,15 +10,13 @@ use native.Mathlib.Omega.{arith}
 use borrow.Author.Tests.{eq-eqb, ne-eqb, lt-ltb, le-ltb}
 use lib.Dec.{eqb}
 use lib.ListN.{length}
-use Rattle.sets.proofs.Tests.{yes-no}
 use Rattle.sets.proofs.Numbers.{eq-or-ne, lt-or-le}
 use Rattle.records.specs.Checks.{firstOf}
 use Rattle.records.specs.Reader.{readAt}
 use Rattle.records.specs.Walking as Walking
 use Rattle.records.specs.Walking.{Stop, StopsAt}
 use Rattle.records.specs.declared.Record.{Record}
-use Rattle.records.specs.declared.Record.the-variants.{Attribute, Object, Dependency, Row, Declared, Removed, Item}
-use Rattle.records.specs.declared.Record.the-variants.{CompareTwo, CompareConstant, End}
+use Rattle.records.specs.declared.Record.the-variants.{End}
 use Rattle.records.specs.declared.Reading.the-variants.{Found}
 use Rattle.records.proofs.Walking.{walk-stops, stops-walk}
 use Rattle.scheme.specs.declared.Scheme.{Scheme}

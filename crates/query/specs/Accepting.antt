@@ -3,9 +3,8 @@
 -- In order: names, maximal objects that contain a set, the whole query, where reading stops.
 -- Assumes nothing.
 use mathlib.Core.Path.{_≡_}
-use mathlib.Core.Logic.{_⊎_}
 use mathlib.Core.List.{List, [], _∷_, _++_, List·Memᴰ}
-use Prim.Native.Nat.{ℕ, _≤_, _<_}
+use Prim.Native.Nat.{ℕ, _≤_}
 use lib.ListN.{length}
 use Rattle.sets.specs.Sets.{_∈_, _⊆_}
 use Rattle.records.specs.Reader.{readAt}
@@ -15,7 +14,7 @@ use Rattle.records.specs.declared.Record.the-variants.{Item, CompareTwo, Compar
 use Rattle.records.specs.declared.Reading.the-variants.{Found}
 use Rattle.scheme.specs.declared.Scheme.{Scheme}
 use Rattle.scheme.specs.Growing.{attributesOf}
-use Rattle.query.specs.Asking.{itemsOf, comparisonsOf, attributesNamed}
+use Rattle.query.specs.Asking.{itemsOf, comparisonsOf}
 use Rattle.query.specs.Faults.{ofQuery, faultOf}
 use Rattle.query.specs.Reading.{queryRules, Outcome, refusedWith}
 

@@ -5,9 +5,9 @@
 -- Assumes nothing.
 use mathlib.Core.Bool.{Bool, true, false, not, _&&_, _||_}
 use mathlib.Core.List.{List, [], _∷_, _++_}
-use Prim.Native.Nat.{ℕ, zero, suc}
+use Prim.Native.Nat.{ℕ}
 use lib.Dec.{eqb, ltb}
-use lib.ListN.{length, getD}
+use lib.ListN.{length}
 use Rattle.sets.specs.Sets.{within, isEmpty}
 use Rattle.records.specs.Walking.{Rules, Stop, shortNumber, walk}
 use Rattle.records.specs.declared.Record.{Record}
@@ -20,7 +20,7 @@ use Rattle.scheme.specs.Growing.{attributesOf}
 use Rattle.query.specs.declared.Asked.{Asked}
 use Rattle.query.specs.declared.Walked.{Walked}
 use Rattle.query.specs.declared.Query.{Query}
-use Rattle.query.specs.Asking.{itemsOf, comparisonsOf, attributesNamed, askedOf}
+use Rattle.query.specs.Asking.{itemsOf, comparisonsOf, askedOf}
 use Rattle.query.specs.Faults.{ofQuery, faultOf}
 
 -- ---- reading record after record

@@ -4,7 +4,6 @@
 -- number.
 -- Assumes nothing.
 use mathlib.Core.Path.{_≡_}
-use mathlib.Core.Bool.{true, false}
 use mathlib.Core.Logic.{_⊎_, _↔_}
 use mathlib.Core.List.{List, [], _∷_, _++_, List·Memᴰ}
 use Prim.Native.Nat.{ℕ, _≤_, _<_}
@@ -24,7 +23,7 @@ use Rattle.query.specs.Asking.{itemsOf, comparisonsOf, attributesNamed, 
 use Rattle.query.specs.Faults.{faultOf}
 use Rattle.query.specs.Conditions.{conditions}
 use Rattle.query.specs.Reading.{containing, Outcome, refusedWith, read}
-use Rattle.query.specs.Accepting.{NamedIn, Contains, Unconnected, OfWhole, Accepted, Faulty, StopsWith}
+use Rattle.query.specs.Accepting.{NamedIn, Contains, OfWhole, Accepted, Faulty, StopsWith}
 
 -- ---- the fault of a record
 

@@ -11,7 +11,7 @@ use Prim.Native.Nat.{ℕ, zero, suc, _-_, _≤_, _<_}
 use native.Mathlib.Omega.{arith}
 use borrow.Author.Tests.{eq-eqb, ne-eqb}
 use lib.ListN.{length, getD}
-use Rattle.sets.proofs.Tests.{yes-or-no, yes-no}
+use Rattle.sets.proofs.Tests.{yes-or-no}
 use Rattle.sets.proofs.Numbers.{eq-or-ne}
 use Rattle.records.specs.Records.{kindOf}
 use Rattle.records.specs.Reader.{readAt}

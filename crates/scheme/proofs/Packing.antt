@@ -8,6 +8,7 @@ use native.Mathlib.Nat.{not-suc-le-zero, le-of-suc-le-suc}
 use native.Mathlib.Omega.{arith}
 use lib.ListN.{length, take, set, length-append}
 use Rattle.reduction.specs.Steps.{Family}
+use Rattle.reduction.proofs.Loops.{length-padded}
 use Rattle.reduction.specs.Packed.{padded, packed}
 use Rattle.reduction.specs.declared.SetList.{SetList}
 use Rattle.scheme.specs.declared.ObjectList.{ObjectList}
@@ -20,12 +21,6 @@ pub record Listing (n : ℕ) (L : List ℕ) (count : ℕ) (out : List ℕ) : Typ
   pub stored : out ≡ padded n L
   pub counted : count ≡ length L
   pub fits : length L ≤ n
-
-pub length-padded : (n : ℕ) (L : List ℕ) → length (padded n L) ≡ n
-unfolding padded
-length-padded zero L = refl
-length-padded (suc n) [] = ap suc (length-padded n [])
-length-padded (suc n) (s ∷ L) = ap suc (length-padded n L)
 
 -- ---- one more at the end
 

@@ -1,7 +1,6 @@
 -- `query::nothing_asked` meets its contract: field for field it is the definition. Assumes nothing.
 use mathlib.Core.Path.{refl}
 use Rattle.query.specs.Asking.{nothingAsked}
-use borrow.Author.Needs.{needs}
 use Rattle.query.proofs.nothing_asked.Statement.{statement}
 use Rattle.query.proofs.nothing_asked.Tie as tie
 

@@ -2,7 +2,6 @@
 use borrow.Author.Tests.{leb-true, leb-false}
 use mathlib.Core.Logic.{⊎-elim}
 use Rattle.query.proofs.Loops.{short-yes, short-low, short-high}
-use borrow.Author.Needs.{needs}
 use Rattle.query.proofs.short_fault.Statement.{statement}
 use Rattle.query.proofs.short_fault.Tie as tie
 

@@ -1,9 +1,8 @@
 -- `relation::cell` meets its contract: the cell of an attribute stands at its rank among the six.
 -- Assumes nothing.
-use mathlib.Core.Path.{subst, sym}
 use native.Mathlib.Omega.{arith}
 use Rattle.sets.proofs.Bits.{member-lt}
-use Rattle.relation.proofs.BookRows.{rank-below-six, cell-read, cell-within}
+use Rattle.relation.proofs.BookRows.{cell-read, cell-within}
 use borrow.Author.Needs.{needs}
 use Rattle.relation.proofs.cell.Statement.{statement}
 use Rattle.relation.proofs.cell.Tie as tie

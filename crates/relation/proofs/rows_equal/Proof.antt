@@ -1,11 +1,8 @@
 -- `relation::rows_equal` meets its contract. The invariant: the cells under the attributes of `on` that are not of
 -- `rest` are equal (`PassedSoFar`). The measure: `rest`, which a turn makes smaller. Assumes nothing.
 use mathlib.Core.Path.{sym, ap₂, _∙_}
-use mathlib.Core.Bool.{Bool}
-use Prim.Native.Nat.{ℕ}
 use lib.Dec.{eqb}
 use borrow.Author.Tests.{eq-eqb, ne-eqb}
-use Rattle.relation.specs.Tables.{cellOf}
 use Rattle.relation.specs.BookRows.{rowOf, equalAt, equalOn}
 use Rattle.relation.proofs.BookRows.{PassedSoFar, pass-start, tested-in, tested-below, pass-failed, pass-next}
 use Rattle.relation.proofs.BookRows.{pass-less, pass-end}

@@ -1,12 +1,8 @@
 -- `relation::rows_match` meets its contract. The invariant: the attributes of `on` that are not of `rest` match
 -- (`PassedSoFar`). The measure: `rest`, which a turn makes smaller. Assumes nothing.
 use mathlib.Core.Path.{sym, ap₂, _∙_}
-use mathlib.Core.Bool.{Bool}
-use Prim.Native.Nat.{ℕ}
-use lib.ListN.{getD}
 use borrow.Author.Tests.{not-true, not-false}
 use Rattle.values.specs.Values.{matches}
-use Rattle.relation.specs.Tables.{cellOf}
 use Rattle.relation.specs.BookRows.{rowOf, matchAt, matchOn}
 use Rattle.relation.proofs.BookRows.{PassedSoFar, pass-start, tested-in, tested-below, pass-failed, pass-next}
 use Rattle.relation.proofs.BookRows.{pass-less, pass-end}

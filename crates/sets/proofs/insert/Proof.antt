@@ -1,7 +1,6 @@
 -- `sets::insert` meets its contract: it is the definition, by its two callees.
 -- Assumes nothing.
 use mathlib.Core.Path.{ap, _∙_}
-use Prim.Native.Nat.{ℕ}
 use borrow.Author.Needs.{needs}
 use Rattle.sets.specs.Sets.{_∪_}
 use Rattle.sets.proofs.insert.Statement.{statement}

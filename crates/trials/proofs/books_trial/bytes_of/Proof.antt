@@ -1,8 +1,7 @@
 -- `trials::books_trial::bytes_of` stays within its slices: what it stored is at most the length. The measure: the bytes
 -- left.
 -- Assumes nothing.
-use mathlib.Core.Path.{_≡_, _∙_}
-use native.Mathlib.Omega.{arith}
+use mathlib.Core.Path.{_≡_}
 use Prim.Native.Nat.{_≤_, _-_}
 use lib.ListN.{length}
 use borrow.Author.Needs.{needs}
