@@ -49,12 +49,11 @@ use Rattle.reduction.proofs.union_of.Met.{met as reduction-union-of}
 use Rattle.reduction.proofs.is_removable.Met.{met as reduction-is-removable}
 use Rattle.reduction.proofs.shrink.Met.{met as reduction-shrink}
 use Rattle.reduction.proofs.attributes_left.Met.{met as reduction-attributes-left}
+use Rattle.reduction.proofs.is_kept.Met.{met as reduction-is-kept}
 use Rattle.reduction.proofs.maximal_sets.Met.{met as reduction-maximal-sets}
 use Rattle.reduction.proofs.kept_sets.Met.{met as reduction-kept-sets}
 use Rattle.reduction.proofs.is_acyclic.Met.{met as reduction-is-acyclic}
 use Rattle.relation.proofs.cell.Met.{met as relation-cell}
-use Rattle.relation.proofs.rows_match.Met.{met as relation-rows-match}
-use Rattle.relation.proofs.rows_equal.Met.{met as relation-rows-equal}
 use Rattle.scheme.proofs.first.Met.{met as scheme-first}
 use Rattle.scheme.proofs.closure.Met.{met as scheme-closure}
 use Rattle.scheme.proofs.family_of.Met.{met as scheme-family-of}
@@ -64,6 +63,11 @@ use Rattle.scheme.proofs.computed.Met.{met as scheme-computed}
 use Rattle.scheme.proofs.maximal_objects.Met.{met as scheme-maximal-objects}
 use Rattle.book.proofs.read.Met.{met as book-read}
 use Rattle.query.proofs.read.Met.{met as query-read}
+use Rattle.sorted.proofs.less_row.Met.{met as sorted-less-row}
+use Rattle.sorted.proofs.put.Met.{met as sorted-put}
+use Rattle.sorted.proofs.seek.Met.{met as sorted-seek}
+use Rattle.sorted.proofs.sort.Met.{met as sorted-sort}
+use Rattle.search.proofs.search.Met.{met as search-search}
 -- ---- theorems
 use Rattle.sets.proofs.Theorems.{members-of-sets, equal-sets, containment, rank-and-count, lowest-member}
 use Rattle.sets.proofs.Theorems.{members-listed}
@@ -93,6 +97,11 @@ use Rattle.relation.proofs.Examples.{leads-and-no-trips-disagree, apart-disagre
 use Rattle.query.proofs.Theorems as Queries
 use Rattle.query.proofs.Theorems.{records-ask, containing-is-the-list, accepted-fits}
 use Rattle.query.proofs.Examples.{trials-hold as query-trials-hold}
+use Rattle.sorted.proofs.Theorems.{rows-ordered, determined-by-members, row-more, rows-more, rows-sorted}
+use Rattle.sorted.proofs.Theorems.{ascending-by-first-columns, next-same}
+use Rattle.sorted.proofs.Examples.{trials-hold as sorted-trials-hold}
+use Rattle.search.proofs.Theorems.{combinations-fit, fill-means}
+use Rattle.search.proofs.Examples.{trials-hold as search-trials-hold}
 use Rattle.trials.proofs.Starred.{starred-hold}
 
 -- ---- demand 2 for books

@@ -1,0 +1,3 @@
+-- The definitions of `sorted`, in the order to read them. Assumes nothing.
+pub mod Rows
+pub mod Statements
