@@ -68,6 +68,7 @@ use Rattle.sorted.proofs.put.Met.{met as sorted-put}
 use Rattle.sorted.proofs.seek.Met.{met as sorted-seek}
 use Rattle.sorted.proofs.sort.Met.{met as sorted-sort}
 use Rattle.search.proofs.search.Met.{met as search-search}
+use Rattle.terms.proofs.terms_of.Met.{met as terms-terms-of}
 -- ---- theorems
 use Rattle.sets.proofs.Theorems.{members-of-sets, equal-sets, containment, rank-and-count, lowest-member}
 use Rattle.sets.proofs.Theorems.{members-listed}
