@@ -1,10 +1,10 @@
 -- The names that docs/STATEMENTS.md gives. A name that is only imported is refused here once it is gone; a theorem that
 -- stands below as a typed line is refused as soon as it says something else, too.
--- In order: contracts and theorems, imported; then as typed lines demand 2 for books and for queries, demand 3, the
--- comparison table.
+-- In order: contracts and theorems, imported; then as typed lines demand 2 for books and for queries, demand 1 and
+-- demand 2 for answers, demand 3, the comparison table.
 -- Assumes nothing.
 use mathlib.Core.Path.{_≡_}
-use mathlib.Core.List.{List}
+use mathlib.Core.List.{List, List·Memᴰ}
 use Prim.Native.Nat.{ℕ}
 use Rattle.sets.specs.Sets.{_∈_, _⊆_}
 use Rattle.reduction.specs.Steps.{Family}
@@ -16,7 +16,12 @@ use Rattle.records.specs.declared.Record.{Record}
 use Rattle.scheme.specs.declared.Scheme.{Scheme}
 use Rattle.values.specs.Statements.{TableAllows}
 use Rattle.query.specs.Statements as QueryStatements
-use Rattle.book.specs.Reading.{Outcome}
+use Rattle.scheme.specs.Growing.{attributesOf}
+use Rattle.scheme.specs.OfScheme.{maximalOf}
+use Rattle.book.specs.Reading.{Outcome, read}
+use Rattle.answer.specs.Answering.{queryRead}
+use Rattle.answer.specs.Statements.{AnswerListed, CombinationsGive}
+use Rattle.answer.specs.Outcomes.{AnswerNumberMeans, Demand1, PromiseE}
 use Rattle.book.specs.Accepting.{Accepted}
 use Rattle.book.specs.Statements.{FaultMeans, ReadExactly, NumberMeans, AcceptedSay, RowInBytes, MaximalObjectsRead}
 use Rattle.book.specs.Statements.{TablesOfBook, MaximalObjectsOfBook}
@@ -69,6 +74,8 @@ use Rattle.sorted.proofs.seek.Met.{met as sorted-seek}
 use Rattle.sorted.proofs.sort.Met.{met as sorted-sort}
 use Rattle.search.proofs.search.Met.{met as search-search}
 use Rattle.terms.proofs.terms_of.Met.{met as terms-terms-of}
+use Rattle.plan.proofs.register_of.Met.{met as plan-register-of}
+use Rattle.plan.proofs.plan_object.Met.{met as plan-plan-object}
 -- ---- theorems
 use Rattle.sets.proofs.Theorems.{members-of-sets, equal-sets, containment, rank-and-count, lowest-member}
 use Rattle.sets.proofs.Theorems.{members-listed}
@@ -103,6 +110,10 @@ use Rattle.sorted.proofs.Theorems.{ascending-by-first-columns, next-same}
 use Rattle.sorted.proofs.Examples.{trials-hold as sorted-trials-hold}
 use Rattle.search.proofs.Theorems.{combinations-fit, fill-means}
 use Rattle.search.proofs.Examples.{trials-hold as search-trials-hold}
+use Rattle.plan.proofs.Theorems.{rows-read, rows-apart}
+use Rattle.answer.proofs.Theorems.{names-in-range, connection-listed, answer-listed, combinations-give, answer-fits}
+use Rattle.answer.proofs.Theorems.{one-kept-set, answer-number-means, demand1, promise-e}
+use Rattle.answer.proofs.Examples.{trials-hold as answer-trials-hold}
 use Rattle.trials.proofs.Starred.{starred-hold}
 
 -- ---- demand 2 for books
@@ -148,6 +159,23 @@ query-of-its-records = records-ask
 pub maximal-objects-that-contain : (sets Ms : List ℕ) (X : ℕ) → QueryStatements.ContainingList sets Ms X
 maximal-objects-that-contain = containing-is-the-list
 
+-- ---- demand 1, on the definitions: "either a full answer or one refusal of the fixed list, chosen by the fixed order,
+-- and every cell of the answer space is accounted for in both"
+
+pub one-outcome : (b q : List ℕ) (serial : ℕ) (space : List ℕ) → Demand1 b q serial space
+one-outcome = demand1
+
+pub numbers-of-an-answer : (b q : List ℕ) (serial room : ℕ) → AnswerNumberMeans b q serial room
+numbers-of-an-answer = answer-number-means
+
+-- ---- demand 2 for answers: the rows of the list are exactly the answer rows, each once, ascending
+
+pub rows-of-an-answer : (b q : List ℕ) → AnswerListed b (queryRead (read b) q .records)
+rows-of-an-answer b q = answer-listed b (queryRead (read b) q .records) (names-in-range b q)
+
+pub rows-by-combinations : (b q : List ℕ) → CombinationsGive b (queryRead (read b) q .records)
+rows-by-combinations b q = combinations-give b (queryRead (read b) q .records) (names-in-range b q)
+
 -- ---- demand 3
 
 -- "Every list of permitted reduction steps .. ends with exactly the program's kept sets, each once, whether the steps
@@ -164,6 +192,11 @@ demand-3-of-tables = demand3
 -- of it, one at least"
 pub demand-3-of-books : (b : List ℕ) → MaximalObjectsOfBook b
 demand-3-of-books = maximal-objects-of-book
+
+-- the same where the join runs: the kept sets, the objects that show them, M's part
+pub demand-3-of-answers : (b : List ℕ) → read b .number ≡ 0 → (M : ℕ) → List·Memᴰ M (maximalOf (read b .scheme)) → (X : ℕ)
+    → (a : ℕ) × (a ∈ X) → X ⊆ attributesOf (read b .scheme .sets) M → PromiseE b M X
+demand-3-of-answers = promise-e
 
 -- ---- the comparison table
 
