@@ -1,5 +1,5 @@
--- Answer rows by cells that fit the tables: what the search for them is held to. A cell is assumed for each attribute of
--- each variable; each kept set asks for a row of the object that shows it with these cells.
+-- Answer rows by cells that fit the tables: what the search for them is held to. A cell is assumed for each attribute
+-- of each variable; each kept set asks for a row of the object that shows it with these cells.
 -- In order: cells that fit a maximal object, cells that fit a query.
 -- Assumes nothing.
 use mathlib.Core.Path.{_≡_}
