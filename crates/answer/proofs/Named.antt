@@ -3,7 +3,7 @@
 -- In order: items and comparisons are named, cells that agree on names, one thing for each variable.
 -- Assumes nothing.
 use mathlib.Core.Path.{_≡_, refl, sym, ap, ap₂, _∙_, subst}
-use mathlib.Core.Bool.{true}
+use mathlib.Core.Bool.{true, false}
 use mathlib.Core.Logic.{_⊎_, inl, inr, ⊎-elim}
 use mathlib.Core.List.{List, [], _∷_, map, List·Memᴰ, List·Memᴰ·head, List·Memᴰ·tail, List·Memᴰ·not-nil}
 use Prim.Native.Nat.{ℕ}
@@ -50,6 +50,26 @@ pub item-named : {rs : List Record} {i : QueryItem} → List·Memᴰ i (itemsOf 
 item-named {rs} {i} m =
     let p = gathered-said (records-ask rs .items) m in
     record { by = p .by; there = p .there; names = subst (Names (i .variable) (i .attribute)) (sym (p .says)) item }
+
+says-left : {r : Record} {c : Comparison} → SaysComparison r c → Names (c .variable) (c .attribute) r
+says-left two = left
+says-left constant = ofConstant
+
+says-right : {r : Record} {c : Comparison} → SaysComparison r c → c .constant ≡ false
+    → Names (c .variable2) (c .attribute2) r
+says-right two e = right
+says-right constant e = absurd (yes-no refl e)
+
+module _ {rs : List Record} {c : Comparison} (m : List·Memᴰ c (comparisonsOf rs)) where
+  pub left-named : NamedIn rs (c .variable) (c .attribute)
+  left-named =
+      let p = gathered-said (records-ask rs .comparisons) m in
+      record { by = p .by; there = p .there; names = says-left (p .says) }
+
+  pub right-named : c .constant ≡ false → NamedIn rs (c .variable2) (c .attribute2)
+  right-named e =
+      let p = gathered-said (records-ask rs .comparisons) m in
+      record { by = p .by; there = p .there; names = says-right (p .says) e }
 
 -- ---- cells that agree on names
 

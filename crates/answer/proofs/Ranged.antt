@@ -44,7 +44,7 @@ unfolding tablesOf
 table-there b o h i = Memᴰ·map (tableOf b o) (members-has 32 h i)
 
 module _ (b : List ℕ) where
-  cell-lt : {M c a : ℕ} {row : Row} → c < 32 → c ∈ M → List·Memᴰ row (rowsOf b (read b .rows) c)
+  pub cell-lt : {M c a : ℕ} {row : Row} → c < 32 → c ∈ M → List·Memᴰ row (rowsOf b (read b .rows) c)
       → a ∈ getD (read b .scheme .sets) c 0 → cellOf (getD (read b .scheme .sets) c 0) row a < 2 ^ 32
   cell-lt {M} {c} {a} {row} h i r j =
       let q = tables-of-book b M .rowsInRange (tableOf b (read b) c) (table-there b (read b) h i) row r in
@@ -82,6 +82,9 @@ module _ (b : List ℕ) where
         (cell-lt (q .shows .below) (q .shows .there) (f .each (q .object) (q .shows) .there)
         (∩-left (getD (read b .scheme .sets) (q .object) 0) (leftOf (read b .scheme .sets) M X) (q .held)))
 
+    pub fitting-lt : {X a : ℕ} {ρ : ℕ → ℕ} → FitsVariable b (read b) X ρ → a < 32 → a ∈ X → ρ a < 2 ^ 32
+    fitting-lt f h i = held-lt (f .fits) h (fitting-held f i)
+
     -- ---- rows of the connection
 
     pub connection-cell-lt : {X a : ℕ} {row : Row} → InConnection b (read b) X row → a < 32 → a ∈ X
@@ -89,4 +92,4 @@ module _ (b : List ℕ) where
     connection-cell-lt {X} {a} c h i =
         let (ρ, s) = connection-cells b (read b) bounded c in
         subst (λ (x : ℕ). x < 2 ^ 32) (sym (ap (λ (r : Row). cellOf X r a) (s .shows) ∙ cell-of-map ρ h i))
-        (held-lt (s .fits .fits) h (fitting-held (s .fits) i))
+        (fitting-lt (s .fits) h i)

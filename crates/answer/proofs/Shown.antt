@@ -105,12 +105,12 @@ module _ (sets : List ℕ) (M X : ℕ) where
       (s .first))
 
   -- an object shows the kept set K
-  record ShownBy (K : ℕ) : Type 0 where
-    object : ℕ
-    shows : Shows sets M X object
-    cuts : K ≡ cutSet object
+  pub record ShownBy (K : ℕ) : Type 0 where
+    pub object : ℕ
+    pub shows : Shows sets M X object
+    pub cuts : K ≡ cutSet object
 
-  kept-shown : {K : ℕ} → List·Memᴰ K (kept X (familyOf sets M)) → ShownBy K
+  pub kept-shown : {K : ℕ} → List·Memᴰ K (kept X (familyOf sets M)) → ShownBy K
   unfolding kept
   kept-shown {K} m =
       let G : Family = cutTo (leftOf sets M X) (familyOf sets M) in

@@ -3,5 +3,6 @@ pub mod Connection
 pub mod Answers
 pub mod Fitting
 pub mod Answering
+pub mod Searching
 pub mod Statements
 pub mod Outcomes
