@@ -1,25 +1,5 @@
 -- The laws of `answer`. Assumes nothing.
-pub mod InRange
-pub mod Shown
-pub mod Named
-pub mod Connected
-pub mod Fitted
-pub mod Ranged
-pub mod Choices
-pub mod Answered
-pub mod Combined
-pub mod Collecting
-pub mod Levels
-pub mod Standing
-pub mod Finding
-pub mod Stepping
-pub mod Choosing
-pub mod Trying
 pub mod Clearing
-pub mod Spaces
-pub mod Outcomes
-pub mod Theorems
 pub mod Asked
 pub mod Ending
 pub mod Returning
-pub mod Examples

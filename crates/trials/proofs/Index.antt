@@ -19,9 +19,9 @@ use Rattle.query.specs.Statements as QueryStatements
 use Rattle.scheme.specs.Growing.{attributesOf}
 use Rattle.scheme.specs.OfScheme.{maximalOf}
 use Rattle.book.specs.Reading.{Outcome, read}
-use Rattle.answer.specs.Answering.{queryRead}
-use Rattle.answer.specs.Statements.{AnswerListed, CombinationsGive}
-use Rattle.answer.specs.Outcomes.{AnswerNumberMeans, Demand1, PromiseE}
+use Rattle.connection.specs.Answering.{queryRead}
+use Rattle.connection.specs.Statements.{AnswerListed, CombinationsGive}
+use Rattle.connection.specs.Outcomes.{AnswerNumberMeans, Demand1, PromiseE}
 use Rattle.book.specs.Accepting.{Accepted}
 use Rattle.book.specs.Statements.{FaultMeans, ReadExactly, NumberMeans, AcceptedSay, RowInBytes, MaximalObjectsRead}
 use Rattle.book.specs.Statements.{TablesOfBook, MaximalObjectsOfBook}
@@ -111,9 +111,9 @@ use Rattle.sorted.proofs.Examples.{trials-hold as sorted-trials-hold}
 use Rattle.search.proofs.Theorems.{combinations-fit, fill-means}
 use Rattle.search.proofs.Examples.{trials-hold as search-trials-hold}
 use Rattle.plan.proofs.Theorems.{rows-read, rows-apart}
-use Rattle.answer.proofs.Theorems.{names-in-range, connection-listed, answer-listed, combinations-give, answer-fits}
-use Rattle.answer.proofs.Theorems.{one-kept-set, answer-number-means, demand1, promise-e}
-use Rattle.answer.proofs.Examples.{trials-hold as answer-trials-hold}
+use Rattle.connection.proofs.Theorems.{names-in-range, connection-listed, answer-listed, combinations-give, answer-fits}
+use Rattle.connection.proofs.Theorems.{one-kept-set, answer-number-means, demand1, promise-e}
+use Rattle.connection.proofs.Examples.{trials-hold as answer-trials-hold}
 use Rattle.trials.proofs.Starred.{starred-hold}
 
 -- ---- demand 2 for books

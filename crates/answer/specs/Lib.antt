@@ -1,8 +1,0 @@
--- The definitions of `answer`, in the order to read them. Assumes nothing.
-pub mod Connection
-pub mod Answers
-pub mod Fitting
-pub mod Answering
-pub mod Searching
-pub mod Statements
-pub mod Outcomes

@@ -1,0 +1,182 @@
+-- The answer as a list: it has exactly the answer rows, and its rows are of the items' columns.
+-- In order: cells of items, variables 0 to 3, what a choice gives is an answer row, an answer row is given by a choice,
+-- columns, the list in order.
+-- Assumes nothing.
+use mathlib.Core.Path.{_≡_, refl, sym, ap, _∙_, subst}
+use mathlib.Core.Bool.{Bool, true, false}
+use mathlib.Core.Logic.{_↔_, inl, ⊎-elim}
+use mathlib.Core.List.{List, [], _∷_, List·Memᴰ, List·Memᴰ·head, List·Memᴰ·tail, List·Memᴰ·not-nil, Memᴰ·cast}
+use Prim.Native.Nat.{ℕ, zero, suc, _<_, _^_}
+use native.Mathlib.Omega.{arith}
+use lib.ListN.{length, getD, length-map}
+use Rattle.sets.specs.Sets.{isEmpty}
+use Rattle.sets.proofs.Sets.{isEmpty-no, no-isEmpty}
+use Rattle.reduction.specs.Statements.{OfAttributes}
+use Rattle.records.specs.declared.Record.{Record}
+use Rattle.relation.specs.Tables.{Row, cellOf}
+use Rattle.scheme.specs.Growing.{familyOf}
+use Rattle.book.specs.Reading.{read}
+use Rattle.query.specs.declared.QueryItem.{QueryItem}
+use Rattle.query.specs.Asking.{itemsOf, comparisonsOf, attributesNamed}
+use Rattle.query.specs.Accepting.{NamedIn}
+use Rattle.query.proofs.Theorems.{records-ask}
+use Rattle.sorted.specs.Rows.{OfKinds, Ascending, none, AllOfKinds}
+use Rattle.sorted.proofs.Theorems.{rows-more, determined-by-members}
+use Rattle.connection.specs.Connection.{connection}
+use Rattle.connection.specs.Answers.{Cells, kindOf, itemCells, cellsOf, InAnswer, rowsFor, choices, rowsOf, itemKinds}
+use Rattle.connection.specs.Answers.{answerRows}
+use Rattle.connection.specs.Statements.{NamesInRange}
+use Rattle.connection.proofs.Named.{item-named, AgreeOnNames, items-agree, true-agrees}
+use Rattle.connection.proofs.Connected.{of-connection, connection-has}
+use Rattle.connection.proofs.Ranged.{connection-cell-lt}
+use Rattle.connection.proofs.Choices.{Chosen, one, of-choices, choices-have, all-true, true-all, chosenCells}
+use Rattle.connection.proofs.Choices.{of-rowsOf, rowsOf-has}
+use Rattle.connection.proofs.Choices as Choices
+
+-- ---- cells of items
+
+-- cells below n give items below n
+items-lt : (items : List QueryItem) (at : Cells) {n : ℕ} → 0 < n
+    → ((i : QueryItem) → List·Memᴰ i items → at (i .variable) (i .attribute) < n) → (k : ℕ)
+    → getD (itemCells items at) k 0 < n
+unfolding itemCells
+items-lt [] at p h k = p
+items-lt (i ∷ items) at p h zero = h i (List·Memᴰ·head refl)
+items-lt (i ∷ items) at p h (suc k) = items-lt items at p (λ j m. h j (List·Memᴰ·tail m)) k
+
+-- ---- variables 0 to 3
+
+abbrev variables : List ℕ
+variables = 0 ∷ 1 ∷ 2 ∷ 3 ∷ []
+
+of-four : (P : ℕ → Type 0) → P 0 → P 1 → P 2 → P 3 → (v : ℕ) → v < 4 → P v
+of-four P p q r s zero h = p
+of-four P p q r s (suc zero) h = q
+of-four P p q r s (suc (suc zero)) h = r
+of-four P p q r s (suc (suc (suc zero))) h = s
+of-four P p q r s (suc (suc (suc (suc v)))) h = absurd (omega arith)
+
+module _ (b : List ℕ) (bounded : (M : ℕ) → OfAttributes (familyOf (read b .scheme .sets) M)) (rs : List Record)
+    (range : NamesInRange rs) where
+  -- ---- what a choice gives is an answer row
+
+  chosen-row : {l : List Row} → Chosen b (read b) rs variables l → (v : ℕ) → v < 4
+      → List·Memᴰ (getD l v []) (rowsFor b (read b) rs v)
+  chosen-row (one {row = r0} m0 (one {row = r1} m1 (one {row = r2} m2 (one {row = r3} m3 Choices.none)))) v h =
+      of-four (λ v. List·Memᴰ (getD (r0 ∷ r1 ∷ r2 ∷ r3 ∷ []) v []) (rowsFor b (read b) rs v)) m0 m1 m2 m3 v h
+
+  rows-for-named : {v a : ℕ} → NamedIn rs v a → rowsFor b (read b) rs v ≡ connection b (read b) (attributesNamed rs v)
+  unfolding rowsFor
+  rows-for-named {v} {a} n =
+      ap (λ (t : Bool). elim t [ true ↦ [] ∷ [] | false ↦ connection b (read b) (attributesNamed rs v) ])
+      (isEmpty-no (records-ask rs .attributes v a .1 n))
+
+  choice-answers : {row : Row} → List·Memᴰ row (rowsOf (read b) rs (choices b (read b) rs variables))
+      → InAnswer b (read b) rs row
+  choice-answers m =
+      let g = of-rowsOf (read b) rs (choices b (read b) rs variables) m in
+      let c = of-choices b (read b) rs variables (g .there) in
+      record {
+        picks = λ v. getD (g .choice) v [];
+        connected = λ v a n.
+            of-connection b (read b) (attributesNamed rs v) bounded
+            (subst (List·Memᴰ (getD (g .choice) v [])) (rows-for-named n) (chosen-row c v (range .each v a n .0)));
+        holding = all-true (read b) (chosenCells rs (g .choice)) (comparisonsOf rs) (g .passes);
+        shows = g .shows;
+      }
+
+  -- ---- an answer row is given by a choice
+
+  module _ {row : Row} (i : InAnswer b (read b) rs row) where
+    -- the row picked for a variable, of one that is not named the row of no cells
+    pick : ℕ → Row
+    pick v = elim (isEmpty (attributesNamed rs v)) [ true ↦ [] | false ↦ i .picks v ]
+
+    pick-there : (v : ℕ) → List·Memᴰ (pick v) (rowsFor b (read b) rs v)
+    unfolding pick rowsFor
+    pick-there v = by (isEmpty (attributesNamed rs v)) refl
+      where
+        by : (t : Bool) → isEmpty (attributesNamed rs v) ≡ t
+            → List·Memᴰ {A = Row} (elim t [ true ↦ [] | false ↦ i .picks v ])
+            (elim t [ true ↦ [] ∷ [] | false ↦ connection b (read b) (attributesNamed rs v) ])
+        by true e = List·Memᴰ·head refl
+        by false e =
+            let (a, m) = no-isEmpty (attributesNamed rs v) e in
+            connection-has b (read b) (attributesNamed rs v) bounded
+            (i .connected v a (records-ask rs .attributes v a .0 m))
+
+    pick-named : {v a : ℕ} → NamedIn rs v a → pick v ≡ i .picks v
+    unfolding pick
+    pick-named {v} {a} n =
+        ap (λ (t : Bool). elim t [ true ↦ [] | false ↦ i .picks v ]) (isEmpty-no (records-ask rs .attributes v a .1 n))
+
+    choice : List Row
+    choice = pick 0 ∷ pick 1 ∷ pick 2 ∷ pick 3 ∷ []
+
+    choice-chosen : Chosen b (read b) rs variables choice
+    unfolding choice
+    choice-chosen =
+        one (pick-there 0) (one (pick-there 1) (one (pick-there 2) (one (pick-there 3) Choices.none)))
+
+    choice-picks : {v a : ℕ} → NamedIn rs v a → getD choice v [] ≡ i .picks v
+    unfolding choice
+    choice-picks {v} {a} n =
+        of-four (λ w. getD choice w [] ≡ pick w) refl refl refl refl v (range .each v a n .0) ∙ pick-named n
+
+    choice-agrees : AgreeOnNames rs (chosenCells rs choice) (cellsOf rs (i .picks))
+    unfolding cellsOf
+    choice-agrees = record {
+      each = λ v a n. ap (λ (r : Row). cellOf (attributesNamed rs v) r a) (choice-picks n);
+    }
+
+    answer-chosen : List·Memᴰ row (rowsOf (read b) rs (choices b (read b) rs variables))
+    answer-chosen =
+        Memᴰ·cast (i .shows ∙ sym (items-agree choice-agrees))
+        (rowsOf-has (read b) rs (choices-have b (read b) rs choice-chosen)
+        (true-all (read b) (chosenCells rs choice) (comparisonsOf rs)
+        (λ c m. true-agrees choice-agrees (read b) m ∙ i .holding c m)))
+
+  -- ---- columns
+
+  answer-of-kinds : {row : Row} → InAnswer b (read b) rs row → OfKinds (itemKinds (read b) rs) row
+  unfolding itemCells itemKinds cellsOf
+  answer-of-kinds i = record {
+    wide = ap length (i .shows) ∙ length-map (itemsOf rs) _ ∙ sym (length-map (itemsOf rs) (kindOf (read b)));
+    cells = λ k.
+        subst (λ (r : Row). getD r k 0 < 2 ^ 32) (sym (i .shows))
+        (items-lt (itemsOf rs) (cellsOf rs (i .picks)) (omega arith) (λ t m.
+        let n = item-named m in
+        connection-cell-lt b bounded (i .connected (t .variable) (t .attribute) n)
+        (range .each (t .variable) (t .attribute) n .1)
+        (records-ask rs .attributes (t .variable) (t .attribute) .1 n)) k);
+  }
+
+  -- ---- the list in order
+
+  given-of-kinds : AllOfKinds (itemKinds (read b) rs) (rowsOf (read b) rs (choices b (read b) rs variables))
+  given-of-kinds = record { each = λ r m. answer-of-kinds (choice-answers m) }
+
+  none-of-kinds : AllOfKinds (itemKinds (read b) rs) []
+  none-of-kinds = record { each = λ r m. absurd (List·Memᴰ·not-nil m) }
+
+  pub answer-rows : (row : Row) → List·Memᴰ row (answerRows b (read b) rs) ↔ InAnswer b (read b) rs row
+  unfolding answerRows
+  answer-rows row =
+      let m = rows-more (itemKinds (read b) rs) .members (rowsOf (read b) rs (choices b (read b) rs variables)) []
+      given-of-kinds none-of-kinds row in (
+        λ k. ⊎-elim (λ j. choice-answers j) (λ j. absurd (List·Memᴰ·not-nil j)) (m .0 k),
+        λ i. m .1 (inl (answer-chosen i)),
+      )
+
+  pub answer-ascending : Ascending (itemKinds (read b) rs) (answerRows b (read b) rs)
+  unfolding answerRows
+  answer-ascending = rows-more (itemKinds (read b) rs) .ascending _ [] given-of-kinds none
+
+  pub answer-rows-of-kinds : AllOfKinds (itemKinds (read b) rs) (answerRows b (read b) rs)
+  answer-rows-of-kinds = record { each = λ r m. answer-of-kinds (answer-rows r .0 m) }
+
+  pub only-answer : (l : List Row) → Ascending (itemKinds (read b) rs) l
+      → ((row : Row) → List·Memᴰ row l ↔ InAnswer b (read b) rs row) → l ≡ answerRows b (read b) rs
+  only-answer l a h =
+      determined-by-members (itemKinds (read b) rs) .same l (answerRows b (read b) rs) a answer-ascending
+      (λ r. (λ m. answer-rows r .1 (h r .0 m), λ m. h r .1 (answer-rows r .0 m)))

@@ -1,0 +1,149 @@
+-- Choices of one row for each of some variables, and the rows that they give.
+-- In order: rows in front, choices, comparisons, rows given.
+-- Assumes nothing.
+use mathlib.Core.Path.{_≡_, refl, sym, ap, _∙_, subst}
+use mathlib.Core.Bool.{Bool, true, false}
+use mathlib.Core.Logic.{⊎-elim}
+use mathlib.Core.List.{List, [], _∷_, map, List·Memᴰ, List·Memᴰ·head, List·Memᴰ·tail, List·Memᴰ·not-nil, Memᴰ·map}
+use mathlib.Core.List.{Memᴰ·of-map, Memᴰ·cast, List·Memᴰ·append-cases, Memᴰ·append-left, Memᴰ·append-right}
+use mathlib.Core.List.{List·Memᴰ·eq-of-singleton}
+use Prim.Native.Nat.{ℕ}
+use lib.ListN.{getD}
+use Rattle.sets.proofs.Tests.{yes-and, and-yes, yes-no}
+use Rattle.records.specs.declared.Record.{Record}
+use Rattle.relation.specs.Tables.{Row}
+use Rattle.book.specs.Reading.{Outcome}
+use Rattle.query.specs.declared.Comparison.{Comparison}
+use Rattle.query.specs.Asking.{itemsOf, comparisonsOf}
+use Rattle.connection.specs.Answers.{Cells, itemCells, isTrue, allTrue, cellsOf, rowsFor, inFront, choices, rowsOf}
+
+-- ---- rows in front
+
+-- l is one of the rows in front of one of the lists
+record InFront (rows : List Row) (ls : List (List Row)) (l : List Row) : Type 0 where
+  row : Row
+  there : List·Memᴰ row rows
+  rest : List Row
+  restThere : List·Memᴰ rest ls
+  joins : l ≡ row ∷ rest
+
+of-inFront : (rows : List Row) {ls : List (List Row)} {l : List Row} → List·Memᴰ l (inFront rows ls) → InFront rows ls l
+unfolding inFront
+of-inFront [] m = absurd (List·Memᴰ·not-nil m)
+of-inFront (r ∷ rows) {ls} {l} m =
+    ⊎-elim first (λ i. later (of-inFront rows i)) (List·Memᴰ·append-cases (map (λ q. r ∷ q) ls) m)
+  where
+    first : List·Memᴰ l (map (λ q. r ∷ q) ls) → InFront (r ∷ rows) ls l
+    first i =
+        let p = Memᴰ·of-map (λ q. r ∷ q) ls i in
+        record { row = r; there = List·Memᴰ·head refl; rest = p .0; restThere = p .1; joins = sym (p .2) }
+
+    later : InFront rows ls l → InFront (r ∷ rows) ls l
+    later p = record {
+      row = p .row;
+      there = List·Memᴰ·tail (p .there);
+      rest = p .rest;
+      restThere = p .restThere;
+      joins = p .joins;
+    }
+
+inFront-has : {row : Row} {rows : List Row} {l : List Row} {ls : List (List Row)} → List·Memᴰ row rows → List·Memᴰ l ls
+    → List·Memᴰ (row ∷ l) (inFront rows ls)
+unfolding inFront
+inFront-has {row} {rows = r ∷ rows} {l} {ls} (List·Memᴰ·head e) m =
+    Memᴰ·append-left (inFront rows ls) (Memᴰ·cast (ap (λ (q : Row). q ∷ l) e) (Memᴰ·map (λ q. r ∷ q) m))
+inFront-has {rows = r ∷ rows} {ls = ls} (List·Memᴰ·tail i) m =
+    Memᴰ·append-right (map (λ q. r ∷ q) ls) (inFront-has i m)
+
+-- ---- choices
+
+module _ (b : List ℕ) (o : Outcome) (rs : List Record) where
+  -- one row for each of some variables
+  pub data Chosen : List ℕ → List Row → Type 0 where
+    none : Chosen [] []
+    one : {v : ℕ} {vs : List ℕ} {row : Row} {l : List Row} → List·Memᴰ row (rowsFor b o rs v) → Chosen vs l
+        → Chosen (v ∷ vs) (row ∷ l)
+
+  pub of-choices : (vs : List ℕ) {l : List Row} → List·Memᴰ l (choices b o rs vs) → Chosen vs l
+  unfolding choices
+  of-choices [] m = subst (Chosen []) (sym (List·Memᴰ·eq-of-singleton m)) none
+  of-choices (v ∷ vs) m =
+      let p = of-inFront (rowsFor b o rs v) m in
+      subst (Chosen (v ∷ vs)) (sym (p .joins)) (one (p .there) (of-choices vs (p .restThere)))
+
+  pub choices-have : {vs : List ℕ} {l : List Row} → Chosen vs l → List·Memᴰ l (choices b o rs vs)
+  unfolding choices
+  choices-have none = List·Memᴰ·head refl
+  choices-have (one m c) = inFront-has m (choices-have c)
+
+-- ---- comparisons
+
+module _ (o : Outcome) (at : Cells) where
+  pub all-true : (cs : List Comparison) → allTrue o cs at ≡ true → (c : Comparison) → List·Memᴰ c cs
+      → isTrue o c at ≡ true
+  unfolding allTrue
+  all-true [] e c m = absurd (List·Memᴰ·not-nil m)
+  all-true (d ∷ cs) e c (List·Memᴰ·head z) =
+      ap (λ (x : Comparison). isTrue o x at) z ∙ yes-and (isTrue o d at) (allTrue o cs at) e .0
+  all-true (d ∷ cs) e c (List·Memᴰ·tail m) = all-true cs (yes-and (isTrue o d at) (allTrue o cs at) e .1) c m
+
+  pub true-all : (cs : List Comparison) → ((c : Comparison) → List·Memᴰ c cs → isTrue o c at ≡ true)
+      → allTrue o cs at ≡ true
+  unfolding allTrue
+  true-all [] h = refl
+  true-all (d ∷ cs) h = and-yes (h d (List·Memᴰ·head refl)) (true-all cs (λ c m. h c (List·Memᴰ·tail m)))
+
+-- ---- rows given
+
+-- the cells of a choice
+abbrev pub chosenCells : List Record → List Row → Cells
+chosenCells rs l = cellsOf rs (λ v. getD l v [])
+
+module _ (o : Outcome) (rs : List Record) where
+  -- a choice gives the row
+  pub record Gives (ls : List (List Row)) (row : Row) : Type 0 where
+    pub choice : List Row
+    pub there : List·Memᴰ choice ls
+    pub passes : allTrue o (comparisonsOf rs) (chosenCells rs choice) ≡ true
+    pub shows : row ≡ itemCells (itemsOf rs) (chosenCells rs choice)
+
+  gives-later : {l : List Row} {ls : List (List Row)} {row : Row} → Gives ls row → Gives (l ∷ ls) row
+  gives-later g =
+      record { choice = g .choice; there = List·Memᴰ·tail (g .there); passes = g .passes; shows = g .shows }
+
+  pub of-rowsOf : (ls : List (List Row)) {row : Row} → List·Memᴰ row (rowsOf o rs ls) → Gives ls row
+  unfolding rowsOf
+  of-rowsOf [] m = absurd (List·Memᴰ·not-nil m)
+  of-rowsOf (l ∷ ls) {row} m = by (allTrue o (comparisonsOf rs) (chosenCells rs l)) refl m (λ i. of-rowsOf ls i)
+    where
+      by : (t : Bool) → allTrue o (comparisonsOf rs) (chosenCells rs l) ≡ t
+          → List·Memᴰ row (elim t [
+            | true ↦ itemCells (itemsOf rs) (chosenCells rs l) ∷ rowsOf o rs ls
+            | false ↦ rowsOf o rs ls
+          ])
+          → (List·Memᴰ row (rowsOf o rs ls) → Gives ls row) → Gives (l ∷ ls) row
+      by true e (List·Memᴰ·head z) ih = record { choice = l; there = List·Memᴰ·head refl; passes = e; shows = z }
+      by true e (List·Memᴰ·tail i) ih = gives-later (ih i)
+      by false e i ih = gives-later (ih i)
+
+  pub rowsOf-has : {l : List Row} {ls : List (List Row)} → List·Memᴰ l ls
+      → allTrue o (comparisonsOf rs) (chosenCells rs l) ≡ true
+      → List·Memᴰ (itemCells (itemsOf rs) (chosenCells rs l)) (rowsOf o rs ls)
+  unfolding rowsOf
+  rowsOf-has {l} {ls = k ∷ ls} m e = by (allTrue o (comparisonsOf rs) (chosenCells rs k)) refl m (λ i. rowsOf-has i e)
+    where
+      row : Row
+      row = itemCells (itemsOf rs) (chosenCells rs l)
+
+      by : (t : Bool) → allTrue o (comparisonsOf rs) (chosenCells rs k) ≡ t → List·Memᴰ l (k ∷ ls)
+          → (List·Memᴰ l ls → List·Memᴰ row (rowsOf o rs ls))
+          → List·Memᴰ row (elim t [
+            | true ↦ itemCells (itemsOf rs) (chosenCells rs k) ∷ rowsOf o rs ls
+            | false ↦ rowsOf o rs ls
+          ])
+      by true y (List·Memᴰ·head z) ih =
+          List·Memᴰ·head (ap (λ (q : List Row). itemCells (itemsOf rs) (chosenCells rs q)) z)
+      by true y (List·Memᴰ·tail i) ih = List·Memᴰ·tail (ih i)
+      by false n (List·Memᴰ·head z) ih =
+          absurd (yes-no (sym (ap (λ (q : List Row). allTrue o (comparisonsOf rs) (chosenCells rs q)) z) ∙ e) n)
+      by false n (List·Memᴰ·tail i) ih = ih i

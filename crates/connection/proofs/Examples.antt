@@ -1,0 +1,209 @@
+-- Worked examples: what the definitions give beside what the paper says, each from the bytes of a book and of a query.
+-- In order: books, queries, the trials: what is returned and the space; the rows. Two lists, for the memory that checking
+-- them takes.
+-- Assumes nothing.
+use mathlib.Core.Path.{_≡_, refl}
+use mathlib.Core.List.{List, [], _∷_, _++_, map}
+use Prim.Native.Nat.{ℕ}
+use lib.ListN.{length, drop, replicate}
+use Rattle.sets.specs.Sets.{bit, has, within, _∩_, _∪_, _∖_, single, isEmpty, rank, members}
+use Rattle.values.specs.Values.{inRange, signed, valueOf, lessCell, matches}
+use Rattle.values.specs.Operators.{compares, holds, allows}
+use Rattle.records.specs.Fields.{bytes, value, field}
+use Rattle.records.specs.Records.{isKind, bodyLengths, bodyLength, kindOf, bytesOf, bytesOfAll}
+use Rattle.records.specs.Reader.{bodies, recordOf, readFront, readAt}
+use Rattle.records.specs.Checks.{firstOf}
+use Rattle.records.specs.Walking.{shortNumber, walkFrom, walk}
+use Rattle.records.specs.declared.Record.{Record}
+use Rattle.records.specs.declared.Record.the-variants.{Attribute, Object, Row, Item, CompareTwo, End}
+use Rattle.reduction.specs.Kept.{union, around, someHolds, removable, stays, staying, settle, left, acyclic}
+use Rattle.reduction.specs.Kept.{goesFor, goes, keeps, keptOf, kept}
+use Rattle.relation.specs.Tables.{cellOf, projected, project}
+use Rattle.relation.specs.Joins.{together, shown, lowestFor, lowestStanding}
+use Rattle.relation.specs.Computed.{allPass, rowsMatch, matchesAll, eachPassing, goingOn, joinRows, part}
+use Rattle.scheme.specs.Dependencies.{pass, passes, closure}
+use Rattle.scheme.specs.Growing.{familyOf, attributesOf, joins, holding, rounds, grown}
+use Rattle.scheme.specs.MaximalObjects.{computed, isOne, removing, adding, maximalObjects, someUnmatched, someCyclic}
+use Rattle.scheme.specs.OfScheme.{pairs, computedOf, maximalOf, unmatchedOf, cyclicOf}
+use Rattle.book.specs.Faults.{ofBook, someNonZero, someOutside, wrongCells, rowChecks, maximalChecks, checks}
+use Rattle.book.specs.Faults.{faultOf}
+use Rattle.book.specs.Declaring.{nothingDeclared, withAttribute, withObject, withDependency, withDeclared, withRemoved}
+use Rattle.book.specs.Declaring.{declare}
+use Rattle.book.specs.Reading.{isRow, withRow, records, lastNumber, lastFault, afterLast, read}
+use Rattle.book.specs.TablesOf as Tables
+use Rattle.book.specs.TablesOf.{tablesOf}
+use Rattle.book.proofs.Examples.{survey, ring}
+use Rattle.query.specs.Asking.{itemOf, itemsOf, comparisonOf, comparisonsOf, nameOf, namesOf, naming, attributesNamed}
+use Rattle.query.specs.Asking.{filled, askedOf}
+use Rattle.query.specs.Faults as Queries
+use Rattle.query.specs.Faults.{ofQuery}
+use Rattle.query.specs.Reading as Query
+use Rattle.query.specs.Reading.{isEnd, walkQuery, containing, isNil, unconnected, someUnconnected, wholeNumber, atEnd}
+use Rattle.sorted.specs.Rows as Sorted
+use Rattle.sorted.specs.Rows.{lessRow, insertRow, insertRows, withRows}
+use Rattle.connection.specs.declared.Answer.{Answer}
+use Rattle.connection.specs.Connection.{parts, connection}
+use Rattle.connection.specs.Answers.{itemCells, rightCell, isTrue, allTrue, cellsOf, rowsFor, inFront, choices}
+use Rattle.connection.specs.Answers.{itemKinds, answerRows}
+use Rattle.connection.specs.Answers as Answers
+use Rattle.connection.specs.Answering.{rowsOf, spaceNumber, number, refused, answerOf, spaceAfter}
+
+-- ---- books
+
+-- the unit's book is `survey` of `book`. With it a table of a name, joined with no other, with no row
+unfoldable pub withEmpty : List Record
+withEmpty = survey ++ Attribute 4 0 ∷ Object 3 16 ∷ []
+
+-- one table of lengths: 5, -900 and -2500 millimetres
+unfoldable pub lengths : List Record
+lengths =
+    Attribute 0 1 ∷ Object 0 1
+    ∷ Row 0 5 0 0 0 0 0 ∷ Row 0 4294966396 0 0 0 0 0 ∷ Row 0 4294964796 0 0 0 0 0 ∷ []
+
+-- two maximal objects that share attribute 1: no dependency joins them
+unfoldable pub twoObjects : List Record
+twoObjects =
+    Attribute 0 0 ∷ Attribute 1 0 ∷ Attribute 2 0 ∷ Object 0 3 ∷ Object 1 6
+    ∷ Row 0 1 20 0 0 0 0 ∷ Row 0 2 30 0 0 0 0 ∷ Row 1 10 5 0 0 0 0 ∷ Row 1 20 6 0 0 0 0 ∷ []
+
+-- ---- queries
+
+-- "Queries, variable 0: LEAD, TRIP; the same where DEPTH is at most -1000; STATION.": their bytes, one query behind the
+-- other
+unfoldable pub queries : List ℕ
+queries =
+    7 ∷ 0 ∷ 1 ∷ 7 ∷ 0 ∷ 2 ∷ 10
+    ∷ 7 ∷ 0 ∷ 1 ∷ 7 ∷ 0 ∷ 2 ∷ 9 ∷ 0 ∷ 3 ∷ 3 ∷ 24 ∷ 252 ∷ 255 ∷ 255 ∷ 10
+    ∷ 7 ∷ 0 ∷ 0 ∷ 10
+    ∷ []
+
+-- what is returned (number, rows, serial, bytes read), and the space afterwards
+unfoldable pub outcome : List Record → List ℕ → ℕ → List ℕ → List (List ℕ)
+outcome book q serial space =
+    let b : List ℕ = bytesOfAll book in
+    let a : Answer = answerOf b q serial (length space) in
+    (a .refusal ∷ a .rows ∷ a .serial ∷ a .read ∷ []) ∷ spaceAfter b q serial space ∷ []
+
+-- the rows of a query's records with kind 10 behind them
+unfoldable pub rows : List Record → List Record → List (List ℕ)
+rows book query = rowsOf (bytesOfAll book) (bytesOfAll (query ++ End ∷ []))
+
+-- ---- the trials
+
+pub record Trial : Type 0 where
+  pub gives : List (List ℕ)
+  pub says : List (List ℕ)
+
+unfoldable pub outcomes : List Trial
+outcomes =
+    -- the printout: "Q 1 rows 2", "Q 2 rows 1", "Q 3 rows 3"; each query begins where the one before it was read to.
+    -- "cells past the answer keep what they held"
+    record {
+      gives = outcome survey queries 0 (replicate 7 99);
+      says = (0 ∷ 2 ∷ 1 ∷ 7 ∷ []) ∷ (501 ∷ 7 ∷ 502 ∷ 7 ∷ 99 ∷ 99 ∷ 99 ∷ []) ∷ [];
+    }
+    ∷ record {
+      gives = outcome survey (drop 7 queries) 1 (replicate 7 99);
+      says = (0 ∷ 1 ∷ 2 ∷ 15 ∷ []) ∷ (501 ∷ 7 ∷ 99 ∷ 99 ∷ 99 ∷ 99 ∷ 99 ∷ []) ∷ [];
+    }
+    ∷ record {
+      gives = outcome survey (drop 22 queries) 2 (replicate 7 99);
+      says = (0 ∷ 3 ∷ 3 ∷ 4 ∷ []) ∷ (10 ∷ 11 ∷ 12 ∷ 99 ∷ 99 ∷ 99 ∷ 99 ∷ []) ∷ [];
+    }
+    -- "Space for exactly the rows: full; one cell less: 13.", which "sets all of it to zero"
+    ∷ record {
+      gives = outcome survey queries 5 (replicate 4 99);
+      says = (0 ∷ 2 ∷ 6 ∷ 7 ∷ []) ∷ (501 ∷ 7 ∷ 502 ∷ 7 ∷ []) ∷ [];
+    }
+    ∷ record {
+      gives = outcome survey queries 5 (replicate 3 99);
+      says = (13 ∷ 0 ∷ 5 ∷ 0 ∷ []) ∷ (0 ∷ 0 ∷ 0 ∷ []) ∷ [];
+    }
+    -- "Serial 4,294,967,294 answers, the next is 14.", also where the space is too small; "The space is unchanged"
+    ∷ record {
+      gives = outcome survey queries 4294967294 (replicate 4 99);
+      says = (0 ∷ 2 ∷ 4294967295 ∷ 7 ∷ []) ∷ (501 ∷ 7 ∷ 502 ∷ 7 ∷ []) ∷ [];
+    }
+    ∷ record {
+      gives = outcome survey queries 4294967295 (replicate 4 99);
+      says = (14 ∷ 0 ∷ 4294967295 ∷ 0 ∷ []) ∷ (99 ∷ 99 ∷ 99 ∷ 99 ∷ []) ∷ [];
+    }
+    ∷ record {
+      gives = outcome survey queries 4294967295 (replicate 3 99);
+      says = (14 ∷ 0 ∷ 4294967295 ∷ 0 ∷ []) ∷ (99 ∷ 99 ∷ 99 ∷ []) ∷ [];
+    }
+    -- "The book's refusals come first. Then, on the query", then the serial
+    ∷ record {
+      gives = outcome ring [] 4294967295 (99 ∷ []);
+      says = (9 ∷ 0 ∷ 4294967295 ∷ 0 ∷ []) ∷ (99 ∷ []) ∷ [];
+    }
+    ∷ record {
+      gives = outcome survey (10 ∷ []) 4294967295 (99 ∷ []);
+      says = (10 ∷ 0 ∷ 4294967295 ∷ 0 ∷ []) ∷ (99 ∷ []) ∷ [];
+    }
+    ∷ []
+
+pub outcomes-hold : map (λ t. t .gives) outcomes ≡ map (λ t. t .says) outcomes
+unfolding outcomes outcome queries twoObjects lengths withEmpty survey ring spaceAfter answerOf refused
+    number spaceNumber rowsOf answerRows itemKinds choices inFront rowsFor cellsOf allTrue isTrue rightCell itemCells
+    Answers.rowsOf connection parts withRows Sorted.cellsOf insertRows insertRow lessRow Query.read atEnd wholeNumber
+    someUnconnected unconnected isNil containing walkQuery isEnd Queries.faultOf Queries.checks ofQuery askedOf filled
+    attributesNamed naming namesOf nameOf comparisonsOf comparisonOf itemsOf itemOf tablesOf Tables.rowsOf Tables.rowOf
+    Tables.cellsOf
+    read afterLast lastFault lastNumber records withRow isRow declare withRemoved withDeclared withDependency withObject
+    withAttribute nothingDeclared faultOf checks maximalChecks rowChecks wrongCells someOutside someNonZero ofBook
+    cyclicOf unmatchedOf maximalOf computedOf pairs someCyclic someUnmatched maximalObjects adding removing isOne
+    computed grown rounds holding joins attributesOf familyOf closure passes pass part joinRows goingOn eachPassing
+    matchesAll rowsMatch allPass lowestStanding lowestFor shown together project projected cellOf kept keptOf keeps goes
+    goesFor acyclic left settle staying stays removable someHolds around union walk walkFrom shortNumber firstOf readAt
+    readFront recordOf bodies bytesOfAll bytesOf kindOf bodyLength bodyLengths isKind field value bytes allows holds
+    compares matches lessCell valueOf signed inRange members rank isEmpty single _∖_ _∪_ _∩_ within has bit
+outcomes-hold = refl
+
+unfoldable pub rowTrials : List Trial
+rowTrials =
+    -- a variable that only a comparison names is one of those that a row comes from: with no connection row of it, none
+    record { gives = rows withEmpty (Item 0 0 ∷ CompareTwo 1 4 0 1 4 ∷ []); says = [] }
+    ∷ record {
+      gives = rows (withEmpty ++ Row 3 6 0 0 0 0 0 ∷ []) (Item 0 0 ∷ CompareTwo 1 4 0 1 4 ∷ []);
+      says = (10 ∷ []) ∷ (11 ∷ []) ∷ (12 ∷ []) ∷ [];
+    }
+    -- two variables, each with its own connection: leads of the same trip; two leads of the same trip
+    ∷ record {
+      gives = rows survey (Item 0 1 ∷ Item 1 1 ∷ CompareTwo 0 2 0 1 2 ∷ []);
+      says = (501 ∷ 501 ∷ []) ∷ (501 ∷ 502 ∷ []) ∷ (502 ∷ 501 ∷ []) ∷ (502 ∷ 502 ∷ []) ∷ [];
+    }
+    ∷ record {
+      gives = rows survey (Item 0 1 ∷ Item 1 1 ∷ CompareTwo 0 2 0 1 2 ∷ CompareTwo 0 1 1 1 1 ∷ []);
+      says = (501 ∷ 502 ∷ []) ∷ (502 ∷ 501 ∷ []) ∷ [];
+    }
+    -- "ascending by the first item, then the next, by value": -2500 before -900 before 5
+    ∷ record {
+      gives = rows lengths (Item 0 0 ∷ []);
+      says = (4294964796 ∷ []) ∷ (4294966396 ∷ []) ∷ (5 ∷ []) ∷ [];
+    }
+    -- "Rows are distinct": one trip of three stations
+    ∷ record { gives = rows survey (Item 0 2 ∷ []); says = (7 ∷ []) ∷ [] }
+    -- "the union of the parts over all such M": 20 is in both parts
+    ∷ record {
+      gives = rows twoObjects (Item 0 1 ∷ []);
+      says = (10 ∷ []) ∷ (20 ∷ []) ∷ (30 ∷ []) ∷ [];
+    }
+    ∷ []
+
+pub rows-hold : map (λ t. t .gives) rowTrials ≡ map (λ t. t .says) rowTrials
+unfolding rowTrials rows twoObjects lengths withEmpty survey ring spaceAfter answerOf refused
+    number spaceNumber rowsOf answerRows itemKinds choices inFront rowsFor cellsOf allTrue isTrue rightCell itemCells
+    Answers.rowsOf connection parts withRows Sorted.cellsOf insertRows insertRow lessRow Query.read atEnd wholeNumber
+    someUnconnected unconnected isNil containing walkQuery isEnd Queries.faultOf Queries.checks ofQuery askedOf filled
+    attributesNamed naming namesOf nameOf comparisonsOf comparisonOf itemsOf itemOf tablesOf Tables.rowsOf Tables.rowOf
+    Tables.cellsOf
+    read afterLast lastFault lastNumber records withRow isRow declare withRemoved withDeclared withDependency withObject
+    withAttribute nothingDeclared faultOf checks maximalChecks rowChecks wrongCells someOutside someNonZero ofBook
+    cyclicOf unmatchedOf maximalOf computedOf pairs someCyclic someUnmatched maximalObjects adding removing isOne
+    computed grown rounds holding joins attributesOf familyOf closure passes pass part joinRows goingOn eachPassing
+    matchesAll rowsMatch allPass lowestStanding lowestFor shown together project projected cellOf kept keptOf keeps goes
+    goesFor acyclic left settle staying stays removable someHolds around union walk walkFrom shortNumber firstOf readAt
+    readFront recordOf bodies bytesOfAll bytesOf kindOf bodyLength bodyLengths isKind field value bytes allows holds
+    compares matches lessCell valueOf signed inRange members rank isEmpty single _∖_ _∪_ _∩_ within has bit
+rows-hold = refl

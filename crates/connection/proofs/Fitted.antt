@@ -1,0 +1,168 @@
+-- The connection by cells: a row is in a part exactly if it shows cells that fit the maximal object, and so an answer
+-- row is one exactly if it has the items of cells that fit the query.
+-- In order: cells that fit the tables shown, parts, the connection, answer rows.
+-- Assumes nothing.
+use mathlib.Core.Path.{_≡_, refl, sym, ap, _∙_, subst}
+use mathlib.Core.List.{List, map, Memᴰ·map}
+use Prim.Native.Nat.{ℕ, _<_}
+use lib.ListN.{getD}
+use Rattle.sets.specs.Sets.{_∈_, _⊆_, members}
+use Rattle.sets.proofs.Bits.{member-lt}
+use Rattle.sets.proofs.Sets.{∩-left}
+use Rattle.reduction.specs.Steps.{Family}
+use Rattle.reduction.specs.Kept.{union}
+use Rattle.reduction.specs.Statements.{OfAttributes}
+use Rattle.reduction.proofs.Left.{union-⊇}
+use Rattle.records.specs.declared.Record.{Record}
+use Rattle.relation.specs.Tables.{Row, cellOf, Table, family, projected, project}
+use Rattle.relation.proofs.Tables.{cell-projected, of-project, project-has}
+use Rattle.relation.proofs.Fitting.{FitsOn, AllFit, join-assigned, assigned-join}
+use Rattle.relation.proofs.KeptSets.{wanted-kept}
+use Rattle.relation.proofs.Standing.{family-shown}
+use Rattle.relation.proofs.Theorems.{lowest-stands}
+use Rattle.scheme.specs.Growing.{familyOf, attributesOf}
+use Rattle.book.specs.Reading.{Outcome}
+use Rattle.book.specs.TablesOf.{tablesOf}
+use Rattle.book.proofs.TablesOf.{tables-family}
+use Rattle.query.specs.Asking.{attributesNamed}
+use Rattle.query.specs.Accepting.{NamedIn}
+use Rattle.connection.specs.Connection.{InPart, InConnection}
+use Rattle.connection.specs.Answers.{Cells, cellsOf, InAnswer, shownTables}
+use Rattle.plan.specs.Planned.{leftOf, Shows}
+use Rattle.connection.specs.Fitting.{RowFits, FitsObject, FitsVariable, FitsQuery}
+use Rattle.connection.specs.Statements.{NamesInRange}
+use Rattle.connection.proofs.Shown.{cutSet, tableOf, object-in-family, shown-has, of-shown}
+use Rattle.connection.proofs.Named.{AgreeOnNames, items-agree, true-agrees, shown-agree, forEach, for-each}
+
+module _ (b : List ℕ) (o : Outcome) (bounded : (M : ℕ) → OfAttributes (familyOf (o .scheme .sets) M)) where
+  -- ---- cells that fit the tables shown
+
+  -- attributes are below 32
+  attribute-lt : {M c a : ℕ} → c < 32 → c ∈ M → a ∈ getD (o .scheme .sets) c 0 → a < 32
+  attribute-lt {M} {c} h i j =
+      member-lt 32 (bounded M .bounded (getD (o .scheme .sets) c 0) (object-in-family (o .scheme .sets) M h i)) j
+
+  module _ {M X : ℕ} {ρ : ℕ → ℕ} where
+    row-fits-on : {c B : ℕ} → Shows (o .scheme .sets) M X c → RowFits b o M X c ρ
+        → FitsOn B ρ (project (cutSet (o .scheme .sets) M X c) (tableOf b o c))
+    unfolding project
+    row-fits-on {c} s r =
+        let S : ℕ = getD (o .scheme .sets) c 0 in
+        let K : ℕ = cutSet (o .scheme .sets) M X c in
+        record {
+          row = projected S K (r .row);
+          there = project-has K (tableOf b o c) (r .there);
+          cells = λ a i _.
+              let h : a < 32 = attribute-lt (s .below) (s .there) (∩-left S (leftOf (o .scheme .sets) M X) i) in
+              cell-projected S (r .row) h i ∙ r .cells a h i;
+        }
+
+    fits-on-row : {c B : ℕ} → cutSet (o .scheme .sets) M X c ⊆ B
+        → FitsOn B ρ (project (cutSet (o .scheme .sets) M X c) (tableOf b o c)) → RowFits b o M X c ρ
+    unfolding project
+    fits-on-row {c} w f =
+        let S : ℕ = getD (o .scheme .sets) c 0 in
+        let K : ℕ = cutSet (o .scheme .sets) M X c in
+        let p = of-project K (tableOf b o c) (f .there) in
+        record {
+          row = p .origin;
+          there = p .there;
+          cells = λ a h i.
+              sym (cell-projected S (p .origin) h i) ∙ ap (λ (row : Row). cellOf K row a) (sym (p .shows))
+              ∙ f .cells a i (w .each i);
+        }
+
+    object-fits-shown : {B : ℕ} → FitsObject b o M X ρ → AllFit B ρ (shownTables b o M X)
+    object-fits-shown {B} f T m =
+        let p = of-shown b o M X m in
+        subst (FitsOn B ρ) (sym (p .projects)) (row-fits-on (p .shows) (f .each (p .object) (p .shows)))
+
+    shown-fits-object : AllFit (union (family (shownTables b o M X))) ρ (shownTables b o M X) → FitsObject b o M X ρ
+    unfolding project
+    shown-fits-object f = record {
+      each = λ c s.
+          let m = shown-has b o M X s in
+          fits-on-row (union-⊇ (Memᴰ·map (λ (T : Table). T .set) m)) (f _ m);
+    }
+
+  -- ---- parts
+
+  -- the attributes X stand in the tables shown
+  pub wanted-shown : (M X : ℕ) → X ⊆ attributesOf (o .scheme .sets) M → X ⊆ union (family (shownTables b o M X))
+  unfolding attributesOf
+  wanted-shown M X i =
+      let Ts : List Table = tablesOf b o M in
+      let e = tables-family b o M in
+      let of : OfAttributes (family Ts) = subst OfAttributes (sym e) (bounded M) in
+      subst (λ (F : Family). X ⊆ union F) (sym (family-shown (lowest-stands Ts X of .stands)))
+      (wanted-kept X (family Ts) of (subst (λ (F : Family). X ⊆ union F) (sym e) i))
+
+  -- a row shows on X cells that fit M
+  pub record ShowsFitting (M X : ℕ) (row : Row) : Type 0 where
+    pub cells : ℕ → ℕ
+    pub fits : FitsObject b o M X cells
+    pub shows : row ≡ map cells (members 32 X)
+
+  module _ {M X : ℕ} {row : Row} (i : X ⊆ attributesOf (o .scheme .sets) M) where
+    pub part-fits : InPart b o M X row → ShowsFitting M X row
+    part-fits p =
+        let s = join-assigned (wanted-shown M X i) (p .joined) in
+        record { cells = s .assigns; fits = shown-fits-object (s .allFit); shows = s .shows }
+
+    pub fits-part : {ρ : ℕ → ℕ} → FitsObject b o M X ρ → row ≡ map ρ (members 32 X) → InPart b o M X row
+    fits-part {ρ} f e = record {
+      joined = assigned-join (wanted-shown M X i) (record { assigns = ρ; allFit = object-fits-shown f; shows = e });
+    }
+
+  -- ---- the connection
+
+  -- a row shows on X the cells ρ, and they fit it
+  pub record ShowsCells (X : ℕ) (row : Row) (ρ : ℕ → ℕ) : Type 0 where
+    pub fits : FitsVariable b o X ρ
+    pub shows : row ≡ map ρ (members 32 X)
+
+  pub connection-cells : {X : ℕ} {row : Row} → InConnection b o X row → (ρ : ℕ → ℕ) × ShowsCells X row ρ
+  connection-cells c =
+      let p = part-fits (c .contains) (c .inPart) in (
+        p .cells,
+        record {
+          fits = record { object = c .object; there = c .there; contains = c .contains; fits = p .fits };
+          shows = p .shows;
+        },
+      )
+
+  fits-connection : {X : ℕ} {row : Row} {ρ : ℕ → ℕ} → ShowsCells X row ρ → InConnection b o X row
+  fits-connection s = record {
+    object = s .fits .object;
+    there = s .fits .there;
+    contains = s .fits .contains;
+    inPart = fits-part (s .fits .contains) (s .fits .fits) (s .shows);
+  }
+
+  -- ---- answer rows
+
+  module _ {rs : List Record} (range : NamesInRange rs) where
+    pub answer-fits-query : {row : Row} → InAnswer b o rs row → FitsQuery b o rs row
+    answer-fits-query i =
+        let P : ℕ → (ℕ → ℕ) → Type 0 = λ v ρ. ShowsCells (attributesNamed rs v) (i .picks v) ρ in
+        let had : (v a : ℕ) → NamedIn rs v a → (ρ : ℕ → ℕ) × P v ρ = λ v a n. connection-cells (i .connected v a n) in
+        let at : Cells = forEach rs P (λ a. 0) had in
+        let such : (v a : ℕ) → NamedIn rs v a → P v (at v) = for-each rs P (λ a. 0) had in
+        let s : AgreeOnNames rs (cellsOf rs (i .picks)) at = shown-agree range (λ v a n. such v a n .shows) in
+        record {
+          at = at;
+          variables = λ v a n. such v a n .fits;
+          holding = λ c m. sym (true-agrees s o m) ∙ i .holding c m;
+          shows = i .shows ∙ items-agree s;
+        }
+
+    pub fits-query-answer : {row : Row} → FitsQuery b o rs row → InAnswer b o rs row
+    fits-query-answer f =
+        let picks : ℕ → Row = λ v. map (f .at v) (members 32 (attributesNamed rs v)) in
+        let s : AgreeOnNames rs (cellsOf rs picks) (f .at) = shown-agree range (λ v a n. refl) in
+        record {
+          picks = picks;
+          connected = λ v a n. fits-connection (record { fits = f .variables v a n; shows = refl });
+          holding = λ c m. true-agrees s o m ∙ f .holding c m;
+          shows = f .shows ∙ sym (items-agree s);
+        }

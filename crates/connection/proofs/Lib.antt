@@ -1,0 +1,14 @@
+-- The laws of `connection`. Assumes nothing.
+pub mod InRange
+pub mod Shown
+pub mod Named
+pub mod Connected
+pub mod Fitted
+pub mod Ranged
+pub mod Choices
+pub mod Answered
+pub mod Combined
+pub mod Spaces
+pub mod Outcomes
+pub mod Theorems
+pub mod Examples

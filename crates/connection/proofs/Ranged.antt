@@ -1,0 +1,95 @@
+-- Cells that fit are cells of the book, and so below 2 ^ 32.
+-- In order: cells of the book, cells that fit, rows of the connection.
+-- Assumes nothing.
+use mathlib.Core.Path.{_≡_, sym, ap, _∙_, subst}
+use mathlib.Core.Bool.{Bool, true, false, cond, _&&_}
+use mathlib.Core.List.{List, List·Memᴰ, Memᴰ·map, Memᴰ·of-map}
+use Prim.Native.Nat.{ℕ, _<_, _^_}
+use native.Mathlib.Omega.{arith}
+use borrow.Author.Tests.{ltb-true}
+use lib.Dec.{eqb, ltb}
+use lib.ListN.{getD}
+use Rattle.sets.specs.Sets.{_∈_}
+use Rattle.sets.proofs.Tests.{yes-and}
+use Rattle.sets.proofs.Sets.{∩-left}
+use Rattle.sets.proofs.Members.{members-has}
+use Rattle.values.specs.Values.{angle, inRange}
+use Rattle.reduction.specs.Statements.{OfAttributes}
+use Rattle.reduction.proofs.Left.{in-union}
+use Rattle.relation.specs.Tables.{Row, cellOf, Table, family, project}
+use Rattle.relation.proofs.Tables.{cell-of-map}
+use Rattle.scheme.specs.Growing.{familyOf}
+use Rattle.book.specs.Reading.{Outcome, read}
+use Rattle.book.specs.TablesOf.{rowsOf, tablesOf}
+use Rattle.book.proofs.Theorems.{tables-of-book}
+use Rattle.connection.specs.Connection.{InConnection}
+use Rattle.connection.specs.Answers.{shownTables}
+use Rattle.plan.specs.Planned.{leftOf, Shows}
+use Rattle.connection.specs.Fitting.{FitsObject, FitsVariable}
+use Rattle.connection.proofs.Shown.{cutSet, tableOf, of-shown}
+use Rattle.connection.proofs.Fitted.{wanted-shown, connection-cells}
+
+-- ---- cells of the book
+
+in-range-lt : (kind cell : ℕ) → inRange kind cell ≡ true → cell < 2 ^ 32
+unfolding inRange
+in-range-lt kind cell e = by (eqb kind angle) e
+  where
+    by : (t : Bool) → cond t (ltb cell 36000) (ltb kind 4 && ltb cell (2 ^ 32)) ≡ true → cell < 2 ^ 32
+    by true e = omega (arith, ltb-true cell 36000 e)
+    by false e = ltb-true cell (2 ^ 32) (yes-and (ltb kind 4) (ltb cell (2 ^ 32)) e .1)
+
+table-there : {M c : ℕ} (b : List ℕ) (o : Outcome) → c < 32 → c ∈ M → List·Memᴰ (tableOf b o c) (tablesOf b o M)
+unfolding tablesOf
+table-there b o h i = Memᴰ·map (tableOf b o) (members-has 32 h i)
+
+module _ (b : List ℕ) where
+  pub cell-lt : {M c a : ℕ} {row : Row} → c < 32 → c ∈ M → List·Memᴰ row (rowsOf b (read b .rows) c)
+      → a ∈ getD (read b .scheme .sets) c 0 → cellOf (getD (read b .scheme .sets) c 0) row a < 2 ^ 32
+  cell-lt {M} {c} {a} {row} h i r j =
+      let q = tables-of-book b M .rowsInRange (tableOf b (read b) c) (table-there b (read b) h i) row r in
+      in-range-lt (getD (read b .scheme .kinds) a 0) (cellOf (getD (read b .scheme .sets) c 0) row a) (q .needed a j)
+
+  -- ---- cells that fit
+
+  module _ (bounded : (M : ℕ) → OfAttributes (familyOf (read b .scheme .sets) M)) where
+    -- an attribute of a table shown is one of the kept set of an object
+    record HeldBy (M X a : ℕ) : Type 0 where
+      object : ℕ
+      shows : Shows (read b .scheme .sets) M X object
+      held : a ∈ cutSet (read b .scheme .sets) M X object
+
+    shown-held : {M X a : ℕ} {T : Table} → List·Memᴰ T (shownTables b (read b) M X) → a ∈ T .set → HeldBy M X a
+    unfolding project
+    shown-held {M} {X} {a} m i =
+        let p = of-shown b (read b) M X m in
+        record {
+          object = p .object;
+          shows = p .shows;
+          held = subst (λ (U : Table). a ∈ U .set) (p .projects) i;
+        }
+
+    fitting-held : {X a : ℕ} {ρ : ℕ → ℕ} (f : FitsVariable b (read b) X ρ) → a ∈ X → HeldBy (f .object) X a
+    fitting-held {X} {a} f i =
+        let Us : List Table = shownTables b (read b) (f .object) X in
+        let s = in-union (family Us) (wanted-shown b (read b) bounded (f .object) X (f .contains) .each i) in
+        let p = Memᴰ·of-map (λ (T : Table). T .set) Us (s .there) in
+        shown-held (p .1) (subst (λ (S : ℕ). a ∈ S) (sym (p .2)) (s .held))
+
+    held-lt : {M X a : ℕ} {ρ : ℕ → ℕ} → FitsObject b (read b) M X ρ → a < 32 → HeldBy M X a → ρ a < 2 ^ 32
+    held-lt {M} {X} {a} f h q =
+        subst (λ (x : ℕ). x < 2 ^ 32) (f .each (q .object) (q .shows) .cells a h (q .held))
+        (cell-lt (q .shows .below) (q .shows .there) (f .each (q .object) (q .shows) .there)
+        (∩-left (getD (read b .scheme .sets) (q .object) 0) (leftOf (read b .scheme .sets) M X) (q .held)))
+
+    pub fitting-lt : {X a : ℕ} {ρ : ℕ → ℕ} → FitsVariable b (read b) X ρ → a < 32 → a ∈ X → ρ a < 2 ^ 32
+    fitting-lt f h i = held-lt (f .fits) h (fitting-held f i)
+
+    -- ---- rows of the connection
+
+    pub connection-cell-lt : {X a : ℕ} {row : Row} → InConnection b (read b) X row → a < 32 → a ∈ X
+        → cellOf X row a < 2 ^ 32
+    connection-cell-lt {X} {a} c h i =
+        let (ρ, s) = connection-cells b (read b) bounded c in
+        subst (λ (x : ℕ). x < 2 ^ 32) (sym (ap (λ (r : Row). cellOf X r a) (s .shows) ∙ cell-of-map ρ h i))
+        (fitting-lt (s .fits) h i)

@@ -1,0 +1,126 @@
+-- The theorems of `Statements`, then those of `Outcomes`, each in its order.
+-- Assumes nothing.
+use mathlib.Core.Path.{_≡_, _∙_}
+use mathlib.Core.List.{List, List·Memᴰ}
+use Prim.Native.Nat.{ℕ}
+use lib.ListN.{length-map}
+use Rattle.sets.specs.Sets.{_∈_, _⊆_}
+use Rattle.reduction.specs.Steps.{Family}
+use Rattle.reduction.specs.Statements.{OfAttributes}
+use Rattle.records.specs.declared.Record.{Record}
+use Rattle.scheme.specs.Growing.{familyOf, attributesOf}
+use Rattle.scheme.specs.OfScheme.{maximalOf}
+use Rattle.book.specs.Reading.{read}
+use Rattle.book.proofs.WellFormed.{family-of-attributes}
+use Rattle.book.proofs.Theorems.{scheme-well-formed, maximal-objects-of-book}
+use Rattle.query.specs.Asking.{itemsOf}
+use Rattle.connection.specs.Statements.{NamesInRange, ConnectionListed, AnswerListed, CombinationsGive, AnswerFits}
+use Rattle.connection.specs.Statements.{OneKeptSet}
+use Rattle.connection.specs.Answers.{kindOf, itemKinds}
+use Rattle.connection.specs.Answering.{queryRead, rowsOf}
+use Rattle.connection.specs.Outcomes.{itemCount, AnswerNumberMeans, Demand1, PromiseE}
+use Rattle.connection.proofs.InRange.{read-in-range}
+use Rattle.connection.proofs.Shown.{shows-lowest, one-kept, kept-of-tables, tables-keep}
+use Rattle.connection.proofs.Connected.{of-connection, connection-has}
+use Rattle.connection.proofs.Fitted.{part-fits, fits-part, answer-fits-query, fits-query-answer}
+use Rattle.connection.proofs.Answered.{answer-rows, answer-ascending, answer-rows-of-kinds, only-answer}
+use Rattle.connection.proofs.Combined.{answer-combined, combined-answer}
+use Rattle.connection.proofs.Spaces.{AllWide}
+use Rattle.connection.proofs.Outcomes.{number-of-book, number-of-query, number-fourteen, number-thirteen}
+use Rattle.connection.proofs.Outcomes.{number-full, number-otherwise, number-at-most, outcome-there, outcome-only}
+use Rattle.connection.proofs.Outcomes.{cells-as-many, rows-in-front, cells-behind}
+
+-- ---- names: those of a query that was read over a book are in range, whatever its number
+
+pub names-in-range : (b q : List ℕ) → NamesInRange (queryRead (read b) q .records)
+names-in-range b q = read-in-range (read b .scheme) (maximalOf (read b .scheme)) q
+
+-- the sets of a book's objects are sets of attributes
+bounded : (b : List ℕ) (M : ℕ) → OfAttributes (familyOf (read b .scheme .sets) M)
+bounded b M = family-of-attributes (scheme-well-formed b .wellFormed) M
+
+-- ---- the connection
+
+pub connection-listed : (b : List ℕ) (X : ℕ) → ConnectionListed b X
+connection-listed b X = record {
+  rows = λ row. (of-connection b (read b) X (bounded b), connection-has b (read b) X (bounded b));
+}
+
+-- ---- answer rows
+
+pub answer-listed : (b : List ℕ) (rs : List Record) → NamesInRange rs → AnswerListed b rs
+answer-listed b rs range = record {
+  rows = answer-rows b (bounded b) rs range;
+  ascending = answer-ascending b (bounded b) rs range;
+  ofKinds = answer-rows-of-kinds b (bounded b) rs range;
+  only = only-answer b (bounded b) rs range;
+}
+
+-- ---- combinations
+
+pub combinations-give : (b : List ℕ) (rs : List Record) → NamesInRange rs → CombinationsGive b rs
+combinations-give b rs range = record {
+  rows = λ row. (answer-combined b (read b) (bounded b) range, combined-answer b (read b) (bounded b) range);
+}
+
+-- ---- cells that fit
+
+pub answer-fits : (b : List ℕ) (rs : List Record) → NamesInRange rs → AnswerFits b rs
+answer-fits b rs range = record {
+  rows = λ row. (answer-fits-query b (read b) (bounded b) range, fits-query-answer b (read b) (bounded b) range);
+}
+
+-- ---- kept sets of one object
+
+pub one-kept-set : (X : ℕ) (F : Family) → OneKeptSet X F
+one-kept-set X F = record { atMostOne = λ s K L. one-kept X F }
+
+-- ---- the number
+
+pub answer-number-means : (b q : List ℕ) (serial room : ℕ) → AnswerNumberMeans b q serial room
+answer-number-means b q serial room = record {
+  ofBook = λ n. number-of-book b q serial room;
+  ofQuery = λ n. number-of-query b q serial room;
+  fourteen = number-fourteen b q serial room;
+  thirteen = number-thirteen b q serial room;
+  full = number-full b q serial room;
+  otherwise = λ n. number-otherwise b q serial room;
+  oneOf = number-at-most b q serial room;
+}
+
+-- ---- demand 1
+
+-- the rows have as many cells as there are items
+rows-wide : (b q : List ℕ) → AllWide (itemCount b q) (rowsOf b q)
+unfolding rowsOf itemKinds
+rows-wide b q r m =
+    let rs : List Record = queryRead (read b) q .records in
+    answer-listed b rs (names-in-range b q) .ofKinds .each r m .wide ∙ length-map (itemsOf rs) (kindOf (read b))
+
+pub demand1 : (b q : List ℕ) (serial : ℕ) (space : List ℕ) → Demand1 b q serial space
+demand1 b q serial space = record {
+  there = outcome-there b q serial space;
+  only = λ a after. outcome-only b q serial space;
+  asMany = cells-as-many b q serial space (rows-wide b q);
+  front = rows-in-front b q serial space (rows-wide b q);
+  behind = cells-behind b q serial space (rows-wide b q);
+}
+
+-- ---- promise e
+
+pub promise-e : (b : List ℕ) → read b .number ≡ 0 → (M : ℕ) → List·Memᴰ M (maximalOf (read b .scheme)) → (X : ℕ)
+    → (a : ℕ) × (a ∈ X) → X ⊆ attributesOf (read b .scheme .sets) M → PromiseE b M X
+promise-e b z M m X some inside =
+    let due = maximal-objects-of-book b .good z M m .demand3 X some inside in
+    record {
+      demand3 = due;
+      kept = λ K. (kept-of-tables b (read b) M X, tables-keep b (read b) M X);
+      choice = due .programsChoice;
+      shownBy = λ c s. shows-lowest b (read b) M X s;
+      part = λ row. (
+        λ j.
+            let f = part-fits b (read b) (bounded b) inside (record { joined = j }) in
+            (f .cells, f .fits, f .shows),
+        λ (at, f, e). fits-part b (read b) (bounded b) inside f e .joined,
+      );
+    }

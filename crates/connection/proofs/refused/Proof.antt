@@ -1,0 +1,13 @@
+-- `connection::refused` meets its contract.
+-- Assumes nothing.
+use Rattle.connection.specs.Answering.{refused}
+use borrow.Author.Needs.{needs}
+use Rattle.connection.proofs.refused.Statement.{statement}
+use Rattle.connection.proofs.refused.Tie as tie
+
+returns : tie.Need-returns
+unfolding refused
+returns c = search needs
+
+pub refused-spec : {M : Type 1} → statement M
+refused-spec = tie.close (tie.spec returns)

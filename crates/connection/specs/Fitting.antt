@@ -1,0 +1,47 @@
+-- Answer rows by cells that fit the tables: what the search for them is held to. A cell is assumed for each attribute
+-- of each variable; each kept set asks for a row of the object that shows it with these cells.
+-- In order: cells that fit a maximal object, cells that fit a query.
+-- Assumes nothing.
+use mathlib.Core.Path.{_≡_}
+use mathlib.Core.Bool.{true}
+use mathlib.Core.List.{List, List·Memᴰ}
+use Prim.Native.Nat.{ℕ, _<_}
+use lib.ListN.{getD}
+use Rattle.sets.specs.Sets.{_∈_, _⊆_, _∩_}
+use Rattle.records.specs.declared.Record.{Record}
+use Rattle.relation.specs.Tables.{Row, cellOf}
+use Rattle.scheme.specs.Growing.{attributesOf}
+use Rattle.scheme.specs.OfScheme.{maximalOf}
+use Rattle.book.specs.Reading.{Outcome}
+use Rattle.book.specs.TablesOf.{rowsOf}
+use Rattle.query.specs.declared.Comparison.{Comparison}
+use Rattle.query.specs.Asking.{itemsOf, comparisonsOf, attributesNamed}
+use Rattle.query.specs.Accepting.{NamedIn}
+use Rattle.plan.specs.Planned.{Shows, leftOf}
+use Rattle.connection.specs.Answers.{Cells, itemCells, isTrue}
+
+-- ---- cells that fit a maximal object
+
+-- a row of object c has these cells under the attributes of its kept set
+pub record RowFits (b : List ℕ) (o : Outcome) (M X c : ℕ) (at : ℕ → ℕ) : Type 0 where
+  pub row : Row
+  pub there : List·Memᴰ row (rowsOf b (o .rows) c)
+  pub cells : (a : ℕ) → a < 32 → a ∈ getD (o .scheme .sets) c 0 ∩ leftOf (o .scheme .sets) M X
+      → cellOf (getD (o .scheme .sets) c 0) row a ≡ at a
+
+pub record FitsObject (b : List ℕ) (o : Outcome) (M X : ℕ) (at : ℕ → ℕ) : Type 0 where
+  pub each : (c : ℕ) → Shows (o .scheme .sets) M X c → RowFits b o M X c at
+
+-- ---- cells that fit a query: for each variable named a maximal object that contains its attributes
+
+pub record FitsVariable (b : List ℕ) (o : Outcome) (X : ℕ) (at : ℕ → ℕ) : Type 0 where
+  pub object : ℕ
+  pub there : List·Memᴰ object (maximalOf (o .scheme))
+  pub contains : X ⊆ attributesOf (o .scheme .sets) object
+  pub fits : FitsObject b o object X at
+
+pub record FitsQuery (b : List ℕ) (o : Outcome) (rs : List Record) (row : Row) : Type 0 where
+  pub at : Cells
+  pub variables : (v a : ℕ) → NamedIn rs v a → FitsVariable b o (attributesNamed rs v) (at v)
+  pub holding : (c : Comparison) → List·Memᴰ c (comparisonsOf rs) → isTrue o c at ≡ true
+  pub shows : row ≡ itemCells (itemsOf rs) at

@@ -1,0 +1,7 @@
+-- The definitions of `connection`, in the order to read them. Assumes nothing.
+pub mod Connection
+pub mod Answers
+pub mod Fitting
+pub mod Answering
+pub mod Statements
+pub mod Outcomes
