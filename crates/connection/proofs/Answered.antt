@@ -5,17 +5,20 @@
 use mathlib.Core.Path.{_≡_, refl, sym, ap, _∙_, subst}
 use mathlib.Core.Bool.{Bool, true, false}
 use mathlib.Core.Logic.{_↔_, inl, ⊎-elim}
-use mathlib.Core.List.{List, [], _∷_, List·Memᴰ, List·Memᴰ·head, List·Memᴰ·tail, List·Memᴰ·not-nil, Memᴰ·cast}
+use mathlib.Core.List.{List, [], _∷_, map, List·Memᴰ, List·Memᴰ·head, List·Memᴰ·tail, List·Memᴰ·not-nil}
+use mathlib.Core.List.{Memᴰ·cast}
 use Prim.Native.Nat.{ℕ, zero, suc, _<_, _^_}
+use native.Mathlib.Nat.{not-suc-le-zero, le-of-suc-le-suc}
 use native.Mathlib.Omega.{arith}
 use lib.ListN.{length, getD, length-map}
 use Rattle.sets.specs.Sets.{isEmpty}
 use Rattle.sets.proofs.Sets.{isEmpty-no, no-isEmpty}
+use Rattle.values.specs.Values.{inRange}
 use Rattle.reduction.specs.Statements.{OfAttributes}
 use Rattle.records.specs.declared.Record.{Record}
 use Rattle.relation.specs.Tables.{Row, cellOf}
 use Rattle.scheme.specs.Growing.{familyOf}
-use Rattle.book.specs.Reading.{read}
+use Rattle.book.specs.Reading.{Outcome, read}
 use Rattle.query.specs.declared.QueryItem.{QueryItem}
 use Rattle.query.specs.Asking.{itemsOf, comparisonsOf, attributesNamed}
 use Rattle.query.specs.Accepting.{NamedIn}
@@ -28,7 +31,7 @@ use Rattle.connection.specs.Answers.{answerRows}
 use Rattle.connection.specs.Statements.{NamesInRange}
 use Rattle.connection.proofs.Named.{item-named, AgreeOnNames, items-agree, true-agrees}
 use Rattle.connection.proofs.Connected.{of-connection, connection-has}
-use Rattle.connection.proofs.Ranged.{connection-cell-lt}
+use Rattle.connection.proofs.Ranged.{connection-cell-lt, connection-cell-ranged}
 use Rattle.connection.proofs.Choices.{Chosen, one, of-choices, choices-have, all-true, true-all, chosenCells}
 use Rattle.connection.proofs.Choices.{of-rowsOf, rowsOf-has}
 use Rattle.connection.proofs.Choices as Choices
@@ -43,6 +46,16 @@ unfolding itemCells
 items-lt [] at p h k = p
 items-lt (i ∷ items) at p h zero = h i (List·Memᴰ·head refl)
 items-lt (i ∷ items) at p h (suc k) = items-lt items at p (λ j m. h j (List·Memᴰ·tail m)) k
+
+-- cells in range give items in range
+items-ranged : (o : Outcome) (items : List QueryItem) (at : Cells)
+    → ((i : QueryItem) → List·Memᴰ i items → inRange (kindOf o i) (at (i .variable) (i .attribute)) ≡ true) → (k : ℕ)
+    → k < length items → inRange (getD (map (kindOf o) items) k 0) (getD (itemCells items at) k 0) ≡ true
+unfolding itemCells
+items-ranged o [] at h k l = absurd (not-suc-le-zero l)
+items-ranged o (i ∷ items) at h zero l = h i (List·Memᴰ·head refl)
+items-ranged o (i ∷ items) at h (suc k) l =
+    items-ranged o items at (λ j m. h j (List·Memᴰ·tail m)) k (le-of-suc-le-suc l)
 
 -- ---- variables 0 to 3
 
@@ -151,6 +164,18 @@ module _ (b : List ℕ) (bounded : (M : ℕ) → OfAttributes (familyOf (read b 
         (records-ask rs .attributes (t .variable) (t .attribute) .1 n)) k);
   }
 
+  answer-ranged : {row : Row} → InAnswer b (read b) rs row → (j : ℕ) → j < length (itemsOf rs)
+      → inRange (getD (itemKinds (read b) rs) j 0) (getD row j 0) ≡ true
+  unfolding itemCells itemKinds cellsOf
+  answer-ranged i j h =
+      subst (λ (r : Row). inRange (getD (map (kindOf (read b)) (itemsOf rs)) j 0) (getD r j 0) ≡ true)
+      (sym (i .shows))
+      (items-ranged (read b) (itemsOf rs) (cellsOf rs (i .picks)) (λ t m.
+      let n = item-named m in
+      connection-cell-ranged b bounded (i .connected (t .variable) (t .attribute) n)
+      (range .each (t .variable) (t .attribute) n .1)
+      (records-ask rs .attributes (t .variable) (t .attribute) .1 n)) j h)
+
   -- ---- the list in order
 
   given-of-kinds : AllOfKinds (itemKinds (read b) rs) (rowsOf (read b) rs (choices b (read b) rs variables))
@@ -174,6 +199,10 @@ module _ (b : List ℕ) (bounded : (M : ℕ) → OfAttributes (familyOf (read b 
 
   pub answer-rows-of-kinds : AllOfKinds (itemKinds (read b) rs) (answerRows b (read b) rs)
   answer-rows-of-kinds = record { each = λ r m. answer-of-kinds (answer-rows r .0 m) }
+
+  pub answer-rows-ranged : (row : Row) → List·Memᴰ row (answerRows b (read b) rs) → (j : ℕ) → j < length (itemsOf rs)
+      → inRange (getD (itemKinds (read b) rs) j 0) (getD row j 0) ≡ true
+  answer-rows-ranged row m = answer-ranged (answer-rows row .0 m)
 
   pub only-answer : (l : List Row) → Ascending (itemKinds (read b) rs) l
       → ((row : Row) → List·Memᴰ row l ↔ InAnswer b (read b) rs row) → l ≡ answerRows b (read b) rs

@@ -1,4 +1,4 @@
--- Cells that fit are cells of the book, and so below 2 ^ 32.
+-- Cells that fit are cells of the book, and so in range of their value kinds and below 2 ^ 32.
 -- In order: cells of the book, cells that fit, rows of the connection.
 -- Assumes nothing.
 use mathlib.Core.Path.{_≡_, sym, ap, _∙_, subst}
@@ -44,11 +44,20 @@ unfolding tablesOf
 table-there b o h i = Memᴰ·map (tableOf b o) (members-has 32 h i)
 
 module _ (b : List ℕ) where
+  -- a cell is in the range of its attribute's value kind
+  abbrev Ranged : ℕ → ℕ → Type 0
+  Ranged a cell = inRange (getD (read b .scheme .kinds) a 0) cell ≡ true
+
+  cell-ranged : {M c a : ℕ} {row : Row} → c < 32 → c ∈ M → List·Memᴰ row (rowsOf b (read b .rows) c)
+      → a ∈ getD (read b .scheme .sets) c 0 → Ranged a (cellOf (getD (read b .scheme .sets) c 0) row a)
+  cell-ranged {M} {c} {a} {row} h i r j =
+      tables-of-book b M .rowsInRange (tableOf b (read b) c) (table-there b (read b) h i) row r .needed a j
+
   pub cell-lt : {M c a : ℕ} {row : Row} → c < 32 → c ∈ M → List·Memᴰ row (rowsOf b (read b .rows) c)
       → a ∈ getD (read b .scheme .sets) c 0 → cellOf (getD (read b .scheme .sets) c 0) row a < 2 ^ 32
   cell-lt {M} {c} {a} {row} h i r j =
-      let q = tables-of-book b M .rowsInRange (tableOf b (read b) c) (table-there b (read b) h i) row r in
-      in-range-lt (getD (read b .scheme .kinds) a 0) (cellOf (getD (read b .scheme .sets) c 0) row a) (q .needed a j)
+      in-range-lt (getD (read b .scheme .kinds) a 0) (cellOf (getD (read b .scheme .sets) c 0) row a)
+      (cell-ranged {M = M} h i r j)
 
   -- ---- cells that fit
 
@@ -76,20 +85,28 @@ module _ (b : List ℕ) where
         let p = Memᴰ·of-map (λ (T : Table). T .set) Us (s .there) in
         shown-held (p .1) (subst (λ (S : ℕ). a ∈ S) (sym (p .2)) (s .held))
 
-    held-lt : {M X a : ℕ} {ρ : ℕ → ℕ} → FitsObject b (read b) M X ρ → a < 32 → HeldBy M X a → ρ a < 2 ^ 32
-    held-lt {M} {X} {a} f h q =
-        subst (λ (x : ℕ). x < 2 ^ 32) (f .each (q .object) (q .shows) .cells a h (q .held))
-        (cell-lt (q .shows .below) (q .shows .there) (f .each (q .object) (q .shows) .there)
+    held-ranged : {M X a : ℕ} {ρ : ℕ → ℕ} → FitsObject b (read b) M X ρ → a < 32 → HeldBy M X a → Ranged a (ρ a)
+    held-ranged {M} {X} {a} f h q =
+        subst (Ranged a) (f .each (q .object) (q .shows) .cells a h (q .held))
+        (cell-ranged {M = M} (q .shows .below) (q .shows .there) (f .each (q .object) (q .shows) .there)
         (∩-left (getD (read b .scheme .sets) (q .object) 0) (leftOf (read b .scheme .sets) M X) (q .held)))
 
+    fitting-ranged : {X a : ℕ} {ρ : ℕ → ℕ} → FitsVariable b (read b) X ρ → a < 32 → a ∈ X → Ranged a (ρ a)
+    fitting-ranged f h i = held-ranged (f .fits) h (fitting-held f i)
+
     pub fitting-lt : {X a : ℕ} {ρ : ℕ → ℕ} → FitsVariable b (read b) X ρ → a < 32 → a ∈ X → ρ a < 2 ^ 32
-    fitting-lt f h i = held-lt (f .fits) h (fitting-held f i)
+    fitting-lt {a = a} {ρ = ρ} f h i = in-range-lt (getD (read b .scheme .kinds) a 0) (ρ a) (fitting-ranged f h i)
 
     -- ---- rows of the connection
 
+    pub connection-cell-ranged : {X a : ℕ} {row : Row} → InConnection b (read b) X row → a < 32 → a ∈ X
+        → Ranged a (cellOf X row a)
+    connection-cell-ranged {X} {a} c h i =
+        let (ρ, s) = connection-cells b (read b) bounded c in
+        subst (Ranged a) (sym (ap (λ (r : Row). cellOf X r a) (s .shows) ∙ cell-of-map ρ h i))
+        (fitting-ranged (s .fits) h i)
+
     pub connection-cell-lt : {X a : ℕ} {row : Row} → InConnection b (read b) X row → a < 32 → a ∈ X
         → cellOf X row a < 2 ^ 32
-    connection-cell-lt {X} {a} c h i =
-        let (ρ, s) = connection-cells b (read b) bounded c in
-        subst (λ (x : ℕ). x < 2 ^ 32) (sym (ap (λ (r : Row). cellOf X r a) (s .shows) ∙ cell-of-map ρ h i))
-        (fitting-lt (s .fits) h i)
+    connection-cell-lt {X} {a} {row} c h i =
+        in-range-lt (getD (read b .scheme .kinds) a 0) (cellOf X row a) (connection-cell-ranged c h i)

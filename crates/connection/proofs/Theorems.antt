@@ -14,8 +14,8 @@ use Rattle.book.specs.Reading.{read}
 use Rattle.book.proofs.WellFormed.{family-of-attributes}
 use Rattle.book.proofs.Theorems.{scheme-well-formed, maximal-objects-of-book}
 use Rattle.query.specs.Asking.{itemsOf}
-use Rattle.connection.specs.Statements.{NamesInRange, ConnectionListed, AnswerListed, CombinationsGive, AnswerFits}
-use Rattle.connection.specs.Statements.{OneKeptSet}
+use Rattle.connection.specs.Statements.{NamesInRange, ConnectionListed, AnswerListed, AnswerInRange, CombinationsGive}
+use Rattle.connection.specs.Statements.{AnswerFits, OneKeptSet}
 use Rattle.connection.specs.Answers.{kindOf, itemKinds}
 use Rattle.connection.specs.Answering.{queryRead, rowsOf}
 use Rattle.connection.specs.Outcomes.{itemCount, AnswerNumberMeans, Demand1, PromiseE}
@@ -24,6 +24,7 @@ use Rattle.connection.proofs.Shown.{shows-lowest, one-kept, kept-of-tab
 use Rattle.connection.proofs.Connected.{of-connection, connection-has}
 use Rattle.connection.proofs.Fitted.{part-fits, fits-part, answer-fits-query, fits-query-answer}
 use Rattle.connection.proofs.Answered.{answer-rows, answer-ascending, answer-rows-of-kinds, only-answer}
+use Rattle.connection.proofs.Answered.{answer-rows-ranged}
 use Rattle.connection.proofs.Combined.{answer-combined, combined-answer}
 use Rattle.connection.proofs.Spaces.{AllWide}
 use Rattle.connection.proofs.Outcomes.{number-of-book, number-of-query, number-fourteen, number-thirteen}
@@ -55,6 +56,11 @@ answer-listed b rs range = record {
   ofKinds = answer-rows-of-kinds b (bounded b) rs range;
   only = only-answer b (bounded b) rs range;
 }
+
+-- ---- cells in range
+
+pub answer-in-range : (b : List ℕ) (rs : List Record) → NamesInRange rs → AnswerInRange b rs
+answer-in-range b rs range = record { each = answer-rows-ranged b (bounded b) rs range }
 
 -- ---- combinations
 

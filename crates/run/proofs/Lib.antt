@@ -1,0 +1,5 @@
+-- The laws of `run`. Assumes nothing.
+pub mod Answering
+pub mod Stepping
+pub mod Returns
+pub mod Theorems

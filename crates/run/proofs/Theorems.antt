@@ -1,0 +1,24 @@
+-- The theorems of `Statements`, in its order.
+-- Assumes nothing.
+use mathlib.Core.Path.{_≡_}
+use mathlib.Core.List.{List}
+use Prim.Native.Nat.{ℕ, _<_, _^_}
+use lib.ListN.{length}
+use Rattle.run.specs.Running.{room, numberOf}
+use Rattle.run.specs.Statements.{AnsweredPrints, StepInside, RunPrints}
+use Rattle.run.proofs.Answering as Answering
+use Rattle.run.proofs.Stepping as Stepping
+
+-- ---- one query
+
+pub answered-prints : (b q : List ℕ) (serial : ℕ) (space : List ℕ) → numberOf b q serial ≡ 0 → serial < 2 ^ 32
+    → length space ≡ room → AnsweredPrints b q serial space
+answered-prints = Answering.answered-prints
+
+pub step-inside : (b q : List ℕ) (serial : ℕ) → serial < 2 ^ 32 → StepInside b q serial
+step-inside = Stepping.step-inside
+
+-- ---- the printout
+
+pub run-prints : (b input : List ℕ) → RunPrints b input
+run-prints = Stepping.run-prints

@@ -1,0 +1,24 @@
+-- The value kinds of the items of a query over a book that was read, as the code has them.
+-- Assumes nothing.
+use mathlib.Core.Path.{_≡_}
+use mathlib.Core.List.{List}
+use Prim.Native.Nat.{ℕ, _≤_}
+use lib.ListN.{length, take}
+use Rattle.book.specs.declared.Book.{Book}
+use Rattle.book.specs.Reading.{read, bookOf}
+use Rattle.connection.specs.Answering.{queryRead}
+use Rattle.run.specs.declared.ItemKinds.{ItemKinds}
+use Rattle.run.specs.Running.{kindsOf}
+
+-- the book is what reading some bytes gave, and neither it nor the query is refused for itself
+pub record GoodQuery (book : Book) (q : List ℕ) : Type 0 where
+  pub bytes : List ℕ
+  pub isRead : book ≡ bookOf (read bytes)
+  pub goodBook : read bytes .number ≡ 0
+  pub goodQuery : queryRead (read bytes) q .number ≡ 0
+
+-- the kinds are those of the items, whatever bytes the book was read from
+pub record KindsOf (book : Book) (q : List ℕ) (k : ItemKinds) : Type 0 where
+  pub long : length (k .kinds) ≡ 8
+  pub few : k .items ≤ 8
+  pub each : (b : List ℕ) → book ≡ bookOf (read b) → read b .number ≡ 0 → take (k .items) (k .kinds) ≡ kindsOf b q

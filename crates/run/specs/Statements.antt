@@ -1,0 +1,59 @@
+-- What is proved of a run, for the bytes of any book and any input. The proofs are in `proofs/Theorems.antt`.
+-- In order: one query, step after step, the printout.
+-- Assumes nothing.
+use mathlib.Core.Path.{_≡_}
+use mathlib.Core.Bool.{true, false}
+use mathlib.Core.List.{List, [], _∷_, _++_}
+use Prim.Native.Nat.{ℕ, _+_, _*_, _≤_, _<_, _^_}
+use lib.ListN.{length, drop}
+use Rattle.book.specs.Reading.{read}
+use Rattle.connection.specs.Answering.{queryRead, rowsOf, spaceAfter}
+use Rattle.printout.specs.Lines.{answerText, bookRefused, queryRefused, FitToPrint}
+use Rattle.run.specs.Running.{numberOf, kindsOf, fullText, textOf, openingText, printout, openingOf, stepOf}
+
+-- ---- one query
+
+-- a query that is answered, over a space of 8,192 cells: its answer is fit to print, what is printed is the text of that
+-- answer, the bytes that the unit has are room enough, and it is read in part at least
+pub record AnsweredPrints (b q : List ℕ) (serial : ℕ) (space : List ℕ) : Type 0 where
+  pub fit : FitToPrint (length (rowsOf b q)) (kindsOf b q) (spaceAfter b q serial space)
+  pub text : fullText b q serial
+      ≡ answerText (serial + 1) (length (rowsOf b q)) (kindsOf b q) (spaceAfter b q serial space)
+  pub fits : length (fullText b q serial) ≤ 98327
+  pub some : 1 ≤ queryRead (read b) q .read
+  pub inside : queryRead (read b) q .read ≤ length q
+
+-- a step: what it prints fits the bytes that the unit has, and one that goes on has read some of what there is
+pub record StepInside (b q : List ℕ) (serial : ℕ) : Type 0 where
+  pub printed : stepOf b q serial .printed ≤ 98327
+  pub some : stepOf b q serial .more ≡ true → 1 ≤ stepOf b q serial .read
+  pub read : stepOf b q serial .read ≤ length q
+
+-- ---- step after step
+
+-- the steps over the bytes q from a serial on, and what they print together: a step where there are bytes, and another
+-- one behind it where it says so, on the bytes that it left
+pub data Steps (b : List ℕ) : List ℕ → ℕ → List ℕ → Type 0 where
+  -- "until the bytes are used up"
+  usedUp : {serial : ℕ} → Steps b [] serial []
+  -- "or one is refused"
+  last : {x serial : ℕ} {q : List ℕ} → stepOf b (x ∷ q) serial .more ≡ false
+      → Steps b (x ∷ q) serial (textOf b (x ∷ q) serial)
+  next : {x serial : ℕ} {q rest : List ℕ} → stepOf b (x ∷ q) serial .more ≡ true
+      → Steps b (drop (stepOf b (x ∷ q) serial .read) (x ∷ q)) (stepOf b (x ∷ q) serial .serial) rest
+      → Steps b (x ∷ q) serial (textOf b (x ∷ q) serial ++ rest)
+
+-- ---- the printout
+
+pub record RunPrints (b input : List ℕ) : Type 0 where
+  -- a run that is over before any query prints the opening
+  pub opening : openingOf (read b .number) (length input) .more ≡ false
+      → printout b input ≡ openingText (read b .number) (length input)
+  -- any other prints nothing before them, then what the steps print: there is an end to them, and one printout only
+  pub nothing : openingOf (read b .number) (length input) .more ≡ true
+      → openingText (read b .number) (length input) ≡ []
+  pub steps : openingOf (read b .number) (length input) .more ≡ true → Steps b input 0 (printout b input)
+  pub only : openingOf (read b .number) (length input) .more ≡ true
+      → (text : List ℕ) → Steps b input 0 text → text ≡ printout b input
+  -- what is printed for each step is as many bytes as it says
+  pub counted : (q : List ℕ) (serial : ℕ) → stepOf b q serial .printed ≡ length (textOf b q serial)
