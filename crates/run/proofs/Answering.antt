@@ -144,4 +144,5 @@ answered-prints b q serial space z h long =
       fits = text-fits b q serial z space long h;
       some = some;
       inside = inside;
+      serials = let (g, m, c) = known b q serial z in omega (arith, h, m);
     }

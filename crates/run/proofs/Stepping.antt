@@ -20,7 +20,7 @@ use Rattle.printout.proofs.Theorems.{room-enough}
 use Rattle.run.specs.declared.Stepped.{Stepped}
 use Rattle.run.specs.Running.{numberOf, fullText, textOf, answersWithin, answers, openingText, printout, openingOf}
 use Rattle.run.specs.Running.{stepOf}
-use Rattle.run.specs.Statements.{StepInside, Steps, usedUp, last, next, RunPrints}
+use Rattle.run.specs.Statements.{StepInside, OpeningInside, Steps, usedUp, last, next, RunPrints}
 use Rattle.run.proofs.Answering.{read-some, answered-prints}
 
 -- ---- one step
@@ -85,6 +85,7 @@ module _ (b q : List ℕ) (serial : ℕ) where
           printed = subst (λ (s : Stepped). s .printed ≤ 98327) e (v .fits);
           some = λ m. subst (λ (s : Stepped). 1 ≤ s .read) e (v .some);
           read = subst (λ (s : Stepped). s .read ≤ length q) e (v .inside);
+          serials = subst (λ (s : Stepped). s .serial < 2 ^ 32) e (v .serials);
         }
 
     refused-inside : (numberOf b q serial ≡ 0 → ⊥) → StepInside b q serial
@@ -95,6 +96,7 @@ module _ (b q : List ℕ) (serial : ℕ) where
           printed = subst (λ (s : Stepped). s .printed ≤ 98327) e (omega (arith, k));
           some = λ m. absurd (yes-no m (sym (ap (λ (s : Stepped). s .more) e)));
           read = subst (λ (s : Stepped). s .read ≤ length q) e (omega arith);
+          serials = subst (λ (s : Stepped). s .serial < 2 ^ 32) e h;
         }
 
     pub step-inside : StepInside b q serial
@@ -103,6 +105,27 @@ module _ (b q : List ℕ) (serial : ℕ) where
 -- whether a run goes on behind its opening: the book is good, and the input not too long
 abbrev pub goes : Bool → Bool → Bool
 goes good long = elim good [ true ↦ elim long [ true ↦ false | false ↦ true ] | false ↦ false ]
+
+pub opening-inside : (refusal input : ℕ) → OpeningInside refusal input
+unfolding openingOf openingText
+opening-inside refusal input = record {
+  printed = λ h. short h (eqb refusal 0) (ltb 65536 input);
+  good = λ m. eqb-true refusal 0 (going (eqb refusal 0) (ltb 65536 input) m);
+}
+  where
+    short : refusal < 256 → (t u : Bool)
+        → length {A = ℕ} (elim t [
+          | true ↦ elim u [ true ↦ queryRefused 1 | false ↦ [] ]
+          | false ↦ bookRefused refusal
+        ])
+        ≤ 98327
+    short h false u = omega (arith, room-enough .book refusal h)
+    short h true true = omega (arith, room-enough .query 1 (omega arith))
+    short h true false = omega arith
+
+    going : (t u : Bool) → goes t u ≡ true → t ≡ true
+    going true u m = refl
+    going false u m = absurd (yes-no m refl)
 
 -- ---- the queries
 

@@ -5,7 +5,7 @@ use mathlib.Core.List.{List}
 use Prim.Native.Nat.{ℕ, _<_, _^_}
 use lib.ListN.{length}
 use Rattle.run.specs.Running.{room, numberOf}
-use Rattle.run.specs.Statements.{AnsweredPrints, StepInside, RunPrints}
+use Rattle.run.specs.Statements.{AnsweredPrints, StepInside, OpeningInside, RunPrints}
 use Rattle.run.proofs.Answering as Answering
 use Rattle.run.proofs.Stepping as Stepping
 
@@ -17,6 +17,9 @@ answered-prints = Answering.answered-prints
 
 pub step-inside : (b q : List ℕ) (serial : ℕ) → serial < 2 ^ 32 → StepInside b q serial
 step-inside = Stepping.step-inside
+
+pub opening-inside : (refusal input : ℕ) → OpeningInside refusal input
+opening-inside = Stepping.opening-inside
 
 -- ---- the printout
 

@@ -22,12 +22,19 @@ pub record AnsweredPrints (b q : List ℕ) (serial : ℕ) (space : List ℕ) : T
   pub fits : length (fullText b q serial) ≤ 98327
   pub some : 1 ≤ queryRead (read b) q .read
   pub inside : queryRead (read b) q .read ≤ length q
+  pub serials : serial + 1 < 2 ^ 32
 
 -- a step: what it prints fits the bytes that the unit has, and one that goes on has read some of what there is
 pub record StepInside (b q : List ℕ) (serial : ℕ) : Type 0 where
   pub printed : stepOf b q serial .printed ≤ 98327
   pub some : stepOf b q serial .more ≡ true → 1 ≤ stepOf b q serial .read
   pub read : stepOf b q serial .read ≤ length q
+  pub serials : stepOf b q serial .serial < 2 ^ 32
+
+-- the opening: it fits the bytes too, and only a good book goes on
+pub record OpeningInside (refusal input : ℕ) : Type 0 where
+  pub printed : refusal < 256 → openingOf refusal input .printed ≤ 98327
+  pub good : openingOf refusal input .more ≡ true → refusal ≡ 0
 
 -- ---- step after step
 

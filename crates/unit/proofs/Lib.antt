@@ -1,0 +1,2 @@
+-- The laws of `unit`. Assumes nothing.
+pub mod Going
