@@ -1,6 +1,5 @@
--- `unit::read_all` meets its contract. The invariant: the bytes read so far are within the buffer, whose length
-    stays.
--- The measure: the turns left. Assumes nothing.
+-- `unit::read_all` meets its contract. The invariant: the bytes read are within the buffer, whose length stays. The
+-- measure: the turns left. Assumes nothing.
 use mathlib.Core.Path.{_≡_, refl}
 use Prim.Native.Nat.{_≤_}
 use native.Mathlib.Omega.{arith}
