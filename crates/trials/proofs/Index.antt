@@ -1,7 +1,8 @@
 -- The names that docs/STATEMENTS.md gives. A name that is only imported is refused here once it is gone; a theorem that
 -- stands below as a typed line is refused as soon as it says something else, too.
--- In order: contracts and theorems, imported; then as typed lines demand 2 for books and for queries, demand 1 and
--- demand 2 for answers, demand 3, the comparison table.
+-- In order: contracts and theorems, imported; then as typed lines the three demands, each as one statement of the whole
+-- program; what the unit prints; and apart, demand 2 for books, for queries and for answers, demand 3, the comparison
+-- table.
 -- Assumes nothing.
 use mathlib.Core.Path.{_≡_}
 use mathlib.Core.List.{List, List·Memᴰ}
@@ -22,6 +23,7 @@ use Rattle.book.specs.Reading.{Outcome, read}
 use Rattle.connection.specs.Answering.{queryRead}
 use Rattle.connection.specs.Statements.{AnswerListed, CombinationsGive}
 use Rattle.connection.specs.Outcomes.{AnswerNumberMeans, Demand1, PromiseE}
+use Rattle.run.specs.Statements.{RunPrints}
 use Rattle.book.specs.Accepting.{Accepted}
 use Rattle.book.specs.Statements.{FaultMeans, ReadExactly, NumberMeans, AcceptedSay, RowInBytes, MaximalObjectsRead}
 use Rattle.book.specs.Statements.{TablesOfBook, MaximalObjectsOfBook}
@@ -76,6 +78,16 @@ use Rattle.search.proofs.search.Met.{met as search-search}
 use Rattle.terms.proofs.terms_of.Met.{met as terms-terms-of}
 use Rattle.plan.proofs.register_of.Met.{met as plan-register-of}
 use Rattle.plan.proofs.plan_object.Met.{met as plan-plan-object}
+use Rattle.connection.proofs.refused.Met.{met as connection-refused}
+use Rattle.choices.proofs.nothing_planned.Met.{met as choices-nothing-planned}
+use Rattle.choices.proofs.choose.Met.{met as choices-choose}
+use Rattle.answer.proofs.answer_book.Met.{met as answer-answer-book}
+use Rattle.answer.proofs.answer_bytes.Met.{met as answer-answer-bytes}
+use Rattle.printout.proofs.print_answer.Met.{met as printout-print-answer}
+use Rattle.printout.proofs.print_book_refusal.Met.{met as printout-print-book-refusal}
+use Rattle.printout.proofs.print_query_refusal.Met.{met as printout-print-query-refusal}
+use Rattle.run.proofs.opening.Met.{met as run-opening}
+use Rattle.run.proofs.step.Met.{met as run-step}
 -- ---- theorems
 use Rattle.sets.proofs.Theorems.{members-of-sets, equal-sets, containment, rank-and-count, lowest-member}
 use Rattle.sets.proofs.Theorems.{members-listed}
@@ -112,9 +124,59 @@ use Rattle.search.proofs.Theorems.{combinations-fit, fill-means}
 use Rattle.search.proofs.Examples.{trials-hold as search-trials-hold}
 use Rattle.plan.proofs.Theorems.{rows-read, rows-apart}
 use Rattle.connection.proofs.Theorems.{names-in-range, connection-listed, answer-listed, combinations-give, answer-fits}
+use Rattle.connection.proofs.Theorems.{answer-in-range}
 use Rattle.connection.proofs.Theorems.{one-kept-set, answer-number-means, demand1, promise-e}
-use Rattle.connection.proofs.Examples.{trials-hold as answer-trials-hold}
+use Rattle.connection.proofs.Examples.{outcomes-hold, rows-hold}
+use Rattle.printout.proofs.Theorems.{in-decimal, cells-read, texts-read, fit-tested, text-printed, answer-printed}
+use Rattle.printout.proofs.Theorems.{room-enough}
+use Rattle.printout.proofs.Examples.{trials-hold as printout-trials-hold}
+use Rattle.run.proofs.Theorems.{answered-prints, step-inside, opening-inside, run-prints}
 use Rattle.trials.proofs.Starred.{starred-hold}
+
+-- ---- the three demands, for the bytes b of any book and q of any query
+
+-- 1. "comes to an end with either a full answer or one refusal of the fixed list, chosen by the fixed order, and every
+-- cell of the answer space is accounted for in both"
+pub demand-1 : (b q : List ℕ) (serial : ℕ) (space : List ℕ) → Demand1 b q serial space
+demand-1 = demand1
+
+-- 2. "The maximal objects, the sets kept by Graham reduction with sacred columns, and the answer rows are exactly those
+-- of the definitions"; "A refusal is given exactly where its stated condition holds and that of none before it in the
+-- fixed order does; everywhere else the answer is full."
+pub record Demand2 (b q : List ℕ) (serial room : ℕ) : Type 0 where
+  pub maximalObjects : MaximalObjectsRead b
+  pub keptSets : (X : ℕ) (F : Family) → OfAttributes F → KeptByEveryList X F
+  pub answerRows : AnswerListed b (queryRead (read b) q .records)
+  pub combinations : CombinationsGive b (queryRead (read b) q .records)
+  pub refusalsOfBooks : ReadExactly b × NumberMeans b
+  pub refusalsOfQueries : QueryStatements.ReadExactly (read b .scheme) (maximalOf (read b .scheme)) q
+      × QueryStatements.NumberMeans (read b .scheme) (maximalOf (read b .scheme)) q
+  pub refusals : AnswerNumberMeans b q serial room
+
+pub demand-2 : (b q : List ℕ) (serial room : ℕ) → Demand2 b q serial room
+demand-2 b q serial room = record {
+  maximalObjects = maximal-objects-read b;
+  keptSets = kept-by-every-list;
+  answerRows = answer-listed b (queryRead (read b) q .records) (names-in-range b q);
+  combinations = combinations-give b (queryRead (read b) q .records) (names-in-range b q);
+  refusalsOfBooks = (read-exactly b, number-means b);
+  refusalsOfQueries = (
+    Queries.read-exactly (read b .scheme) (maximalOf (read b .scheme)) q,
+    Queries.number-means (read b .scheme) (maximalOf (read b .scheme)) q,
+  );
+  refusals = answer-number-means b q serial room;
+}
+
+-- 3. "For every book that isn't refused, whatever rows its tables hold, each of its maximal objects and any wanted
+-- columns of it, one at least": `PromiseE` has demand 3 for M and X, and that answering computes what it speaks of
+pub demand-3 : (b : List ℕ) → read b .number ≡ 0 → (M : ℕ) → List·Memᴰ M (maximalOf (read b .scheme)) → (X : ℕ)
+    → (a : ℕ) × (a ∈ X) → X ⊆ attributesOf (read b .scheme .sets) M → PromiseE b M X
+demand-3 = promise-e
+
+-- ---- what the unit prints: step after step exactly the printout, and it ends
+
+pub printed-by-the-unit : (b input : List ℕ) → RunPrints b input
+printed-by-the-unit = run-prints
 
 -- ---- demand 2 for books
 
@@ -159,15 +221,6 @@ query-of-its-records = records-ask
 pub maximal-objects-that-contain : (sets Ms : List ℕ) (X : ℕ) → QueryStatements.ContainingList sets Ms X
 maximal-objects-that-contain = containing-is-the-list
 
--- ---- demand 1, on the definitions: "either a full answer or one refusal of the fixed list, chosen by the fixed order,
--- and every cell of the answer space is accounted for in both"
-
-pub one-outcome : (b q : List ℕ) (serial : ℕ) (space : List ℕ) → Demand1 b q serial space
-one-outcome = demand1
-
-pub numbers-of-an-answer : (b q : List ℕ) (serial room : ℕ) → AnswerNumberMeans b q serial room
-numbers-of-an-answer = answer-number-means
-
 -- ---- demand 2 for answers: the rows of the list are exactly the answer rows, each once, ascending
 
 pub rows-of-an-answer : (b q : List ℕ) → AnswerListed b (queryRead (read b) q .records)
@@ -192,11 +245,6 @@ demand-3-of-tables = demand3
 -- of it, one at least"
 pub demand-3-of-books : (b : List ℕ) → MaximalObjectsOfBook b
 demand-3-of-books = maximal-objects-of-book
-
--- the same where the join runs: the kept sets, the objects that show them, M's part
-pub demand-3-of-answers : (b : List ℕ) → read b .number ≡ 0 → (M : ℕ) → List·Memᴰ M (maximalOf (read b .scheme)) → (X : ℕ)
-    → (a : ℕ) × (a ∈ X) → X ⊆ attributesOf (read b .scheme .sets) M → PromiseE b M X
-demand-3-of-answers = promise-e
 
 -- ---- the comparison table
 

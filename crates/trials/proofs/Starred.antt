@@ -1,5 +1,4 @@
 -- The starred trials of the paper, in one list under one theorem: what the definitions give beside what the paper says.
--- The answers to the three queries of the printout are not here yet.
 -- In order: the books, the trials.
 -- Assumes nothing.
 use mathlib.Core.Path.{_≡_, refl}
@@ -36,6 +35,23 @@ use Rattle.query.specs.Faults as Queries
 use Rattle.query.specs.Faults.{ofQuery}
 use Rattle.query.specs.Reading as Query
 use Rattle.query.specs.Reading.{isEnd, walkQuery, containing, isNil, unconnected, someUnconnected, wholeNumber, atEnd}
+use Rattle.values.specs.Values.{signed, valueOf, lessCell, matches}
+use Rattle.values.specs.Operators.{compares, holds}
+use Rattle.relation.specs.Tables.{projected, project}
+use Rattle.relation.specs.Joins.{together, shown, lowestFor, lowestStanding}
+use Rattle.relation.specs.Computed.{allPass, rowsMatch, matchesAll, eachPassing, goingOn, joinRows, part}
+use Rattle.book.specs.TablesOf as Tables
+use Rattle.book.specs.TablesOf.{tablesOf}
+use Rattle.sorted.specs.Rows.{lessRow, insertRow, insertRows}
+use Rattle.connection.specs.Connection.{parts, connection}
+use Rattle.connection.specs.Answers.{itemCells, rightCell, isTrue, allTrue, cellsOf, rowsFor, inFront, choices}
+use Rattle.connection.specs.Answers.{itemKinds, answerRows}
+use Rattle.connection.specs.Answers as Answers
+use Rattle.connection.specs.Answering.{rowsOf, spaceNumber, number}
+use Rattle.connection.proofs.Examples.{queries}
+use Rattle.printout.specs.Decimal.{decimalWithin, decimal, integerText, cellText}
+use Rattle.printout.specs.Lines.{behind, line, cellTexts, rowLines, headLine, queryRefused, bookRefused}
+use Rattle.run.specs.Running.{fullText, answersWithin, answers, printout}
 
 -- ---- the books
 
@@ -64,9 +80,24 @@ pub record Trial : Type 0 where
   pub gives : List ℕ
   pub says : List ℕ
 
+-- "Whole output:" of the paper, its bytes
+unfoldable pub output : List ℕ
+output =
+    81 ∷ 32 ∷ 49 ∷ 32 ∷ 114 ∷ 111 ∷ 119 ∷ 115 ∷ 32 ∷ 50 ∷ 10  -- Q 1 rows 2
+    ∷ 53 ∷ 48 ∷ 49 ∷ 32 ∷ 55 ∷ 10  -- 501 7
+    ∷ 53 ∷ 48 ∷ 50 ∷ 32 ∷ 55 ∷ 10  -- 502 7
+    ∷ 81 ∷ 32 ∷ 50 ∷ 32 ∷ 114 ∷ 111 ∷ 119 ∷ 115 ∷ 32 ∷ 49 ∷ 10  -- Q 2 rows 1
+    ∷ 53 ∷ 48 ∷ 49 ∷ 32 ∷ 55 ∷ 10  -- 501 7
+    ∷ 81 ∷ 32 ∷ 51 ∷ 32 ∷ 114 ∷ 111 ∷ 119 ∷ 115 ∷ 32 ∷ 51 ∷ 10  -- Q 3 rows 3
+    ∷ 49 ∷ 48 ∷ 10  -- 10
+    ∷ 49 ∷ 49 ∷ 10  -- 11
+    ∷ 49 ∷ 50 ∷ 10  -- 12
+    ∷ []
+
 unfoldable pub starred : List Trial
 starred =
-    record { gives = kept 6 (3 ∷ 5 ∷ 9 ∷ []); says = 3 ∷ 5 ∷ [] }  -- "Sacred {1,2} keeps {0,1} and {0,2}."
+    record { gives = printout (bytesOfAll survey) queries; says = output }  -- "The three queries above."
+    ∷ record { gives = kept 6 (3 ∷ 5 ∷ 9 ∷ []); says = 3 ∷ 5 ∷ [] }  -- "Sacred {1,2} keeps {0,1} and {0,2}."
     ∷ record { gives = kept 1 (3 ∷ 5 ∷ 9 ∷ []); says = 1 ∷ [] }  -- "Sacred {0} keeps {0}."
     ∷ record { gives = sizes (banking ++ Dependency 32 1 ∷ []); says = 0 ∷ 4 ∷ 4 ∷ [] }  -- "two maximal objects of four"
     ∷ record { gives = sizes banking; says = 0 ∷ 4 ∷ 3 ∷ 2 ∷ [] }  -- "Without loan to bank: three, of four, three and two."
@@ -81,7 +112,12 @@ starred =
     ∷ []
 
 pub starred-hold : map (λ t. t .gives) starred ≡ map (λ t. t .says) starred
-unfolding refusal Query.read atEnd wholeNumber someUnconnected unconnected isNil containing walkQuery isEnd
+unfolding output queries printout answers answersWithin fullText headLine rowLines cellTexts line behind bookRefused
+    queryRefused cellText integerText decimal decimalWithin number spaceNumber rowsOf answerRows itemKinds choices inFront
+    rowsFor cellsOf allTrue isTrue rightCell itemCells Answers.rowsOf connection parts insertRows insertRow lessRow
+    tablesOf Tables.rowsOf Tables.rowOf Tables.cellsOf part joinRows goingOn eachPassing matchesAll rowsMatch allPass
+    lowestStanding lowestFor shown together project projected holds compares matches lessCell valueOf signed
+    refusal Query.read atEnd wholeNumber someUnconnected unconnected isNil containing walkQuery isEnd
     Queries.faultOf Queries.checks ofQuery askedOf filled attributesNamed naming namesOf nameOf comparisonsOf comparisonOf
     itemsOf itemOf allows starred banking sizes survey ring read afterLast lastFault lastNumber records walk walkFrom
     shortNumber
