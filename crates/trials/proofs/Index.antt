@@ -76,7 +76,6 @@ use Rattle.sorted.proofs.seek.Met.{met as sorted-seek}
 use Rattle.sorted.proofs.sort.Met.{met as sorted-sort}
 use Rattle.search.proofs.search.Met.{met as search-search}
 use Rattle.terms.proofs.terms_of.Met.{met as terms-terms-of}
-use Rattle.plan.proofs.register_of.Met.{met as plan-register-of}
 use Rattle.plan.proofs.plan_object.Met.{met as plan-plan-object}
 use Rattle.connection.proofs.refused.Met.{met as connection-refused}
 use Rattle.choices.proofs.nothing_planned.Met.{met as choices-nothing-planned}
