@@ -6,13 +6,12 @@
 # more there are; each is the best of RUNS. Starting and reading the book are so taken off, printing (to /dev/null) is
 # not. A query over one second is run alone, less a run without a query. SQLite: in memory, the statement prepared once,
 # all rows fetched, the best of RUNS; its tables have no index but those that it makes itself. LIMIT seconds end a case.
-import os, random, sqlite3, statistics, struct, subprocess, sys, tempfile, threading, time
+import os, random, signal, sqlite3, statistics, struct, subprocess, sys, tempfile, threading, time
 
 RUNS, LIMIT, INPUT = 5, 60, 65536
 UNIT = [os.path.abspath('target/bin/unit')]
 LIB = '/opt/rattle/on/x86_64/toolchain/lib'
-NAME, LENGTH, DATE = 0, 1, 3
-EQUAL, LESS = 0, 2
+NAME, LENGTH, DATE, EQUAL, LESS = 0, 1, 3, 0, 2
 END = bytes([10])
 word = lambda n: struct.pack('<I', n & 0xffffffff)
 members = lambda numbers: word(sum(1 << k for k in numbers))
@@ -47,13 +46,11 @@ def chain(firsts, tables):  # attribute k determines attribute k + 1; each objec
 
 def cases():  # name, book, query, SQL; another SQL for the rows alone, where the first may not end
     yield ('four tables of 600 on one key', star(4, 600), items(0, 1, 2, 3, 4) + END,
-           'select distinct a1, a2, a3, a4 from t0 join t1 using (a0) join t2 using (a0) join t3 using (a0) '
-           'order by 1, 2, 3, 4')
+           'select distinct a1, a2, a3, a4 from t0 natural join t1 natural join t2 natural join t3 order by 1, 2, 3, 4')
     yield ('two tables of 1,250 on one key', star(2, 1250), items(0, 1, 2) + END,
-           'select distinct a1, a2 from t0, t1 where t0.a0 = t1.a0 order by 1, 2')
+           'select distinct a1, a2 from t0 natural join t1 order by 1, 2')
     yield ('chain of three of 800, numbers not along it', chain([0, 2, 1], [pairs(800) for _ in range(3)]),
-           items(0, 0, 3) + END,
-           'select distinct a0, a3 from t0, t1, t2 where t0.a1 = t2.a1 and t2.a2 = t1.a2 order by 1, 2')
+           items(0, 0, 3) + END, 'select distinct a0, a3 from t0 natural join t2 natural join t1 order by 1, 2')
     cells = [tuple(random.randrange(low, low + (1 << 32)) for low in (0, -1 << 31, 0)) for _ in range(2500)]
     yield ('2,500 rows in random order, three columns', Book([NAME, LENGTH, DATE], [[0, 1, 2]], [], [cells]),
            items(0, 0, 1, 2) + END, 'select distinct a0, a1, a2 from t0 order by 1, 2, 3')
@@ -65,12 +62,10 @@ def cases():  # name, book, query, SQL; another SQL for the rows alone, where th
            'select distinct x.a0 from t0 x, t0 y where x.a1 < y.a0 order by 1')
     yield ('constant equality at the end of four of 600', chain(range(4), [pairs(600) for _ in range(4)]),
            items(0, 0) + compare_constant(0, 4, EQUAL, 77) + END,
-           'select distinct a0 from t0, t1, t2, t3 where t0.a1 = t1.a1 and t1.a2 = t2.a2 and t2.a3 = t3.a3 and a4 = 77 '
-           'order by 1')
+           'select distinct a0 from t0 natural join t1 natural join t2 natural join t3 where a4 = 77 order by 1')
     yield ('five complete tables of 22 by 22, both ends',
            chain(range(5), [[(i, j) for i in range(22) for j in range(22)]] * 5), items(0, 0, 5) + END,
-           'select distinct a0, a5 from t0, t1, t2, t3, t4 where t0.a1 = t1.a1 and t1.a2 = t2.a2 and t2.a3 = t3.a3 '
-           'and t3.a4 = t4.a4 order by 1, 2',
+           'select distinct a0, a5 from t0 natural join t1 natural join t2 natural join t3 natural join t4 order by 1, 2',
            'select distinct a0, a5 from (select distinct a0, a3 from t0 natural join t1 natural join t2) '
            'natural join (select distinct a3, a5 from t3 natural join t4) order by 1, 2')
 
@@ -84,16 +79,16 @@ def seconds(data, runs=RUNS):  # the unit's best time of some runs on this input
             unit.communicate(data)
             timer.cancel()
         best = min(best, time.perf_counter() - start)
-        if unit.returncode != 0:
+        if unit.returncode == -signal.SIGKILL:
             return None
+        assert unit.returncode == 0, f'the unit ended with status {unit.returncode}'
     return best
 
 def output(data):
     return subprocess.run(UNIT, input=data, stdout=subprocess.PIPE, check=True).stdout.decode().splitlines()
 
 def unit_time(query):  # seconds for one query, and the rows; None twice past the limit
-    once = seconds(query, 1)
-    if once is None:
+    if (once := seconds(query, 1)) is None:
         return None, None
     lines = output(query)
     if lines[:1] != [f'Q 1 rows {len(lines) - 1}']:
@@ -111,15 +106,13 @@ def sqlite_time(book, sql, other=None):  # the same for SQLite, the rows by the 
     for n, attributes in enumerate(book.objects):
         base.execute(f'create table t{n} ({", ".join(f"a{a} integer" for a in attributes)})')
         base.executemany(f'insert into t{n} values ({", ".join("?" * len(attributes))})', book.tables[n])
-    best, rows, limit = None, None, time.perf_counter() + LIMIT
+    best, rows, runs, limit = None, None, 0, time.perf_counter() + LIMIT
     timer = threading.Timer(LIMIT, base.interrupt)
     timer.start()
     try:
-        for _ in range(RUNS):
-            start = time.perf_counter()
-            if best is None or start + best < limit:
-                rows = base.execute(sql).fetchall()
-                best = min(best or LIMIT, time.perf_counter() - start)
+        while (runs := runs + 1) <= RUNS and (start := time.perf_counter()) + (best or 0) < limit:
+            rows = base.execute(sql).fetchall()
+            best = min(best or LIMIT, time.perf_counter() - start)
     except sqlite3.OperationalError as error:
         if str(error) != 'interrupted':
             raise
@@ -138,8 +131,7 @@ def reading_time():  # seconds for a book of 65,536 bytes less those for an empt
 
 def peak_memory(query):  # kB resident at most; this query's output must be long
     with subprocess.Popen(UNIT, stdin=subprocess.PIPE, stdout=subprocess.PIPE) as unit:
-        unit.stdin.write(query * 100)
-        unit.stdin.close()
+        unit.stdin.write(query * 100), unit.stdin.close()
         unit.stdout.read(1 << 20)  # some answers; then the unit waits on a full pipe, and can be looked at
         with open(f'/proc/{unit.pid}/status') as status:
             peak = next(int(line.split()[1]) for line in status if line.startswith('VmHWM'))
@@ -165,7 +157,7 @@ def main():
         elif rows != expected:
             wrong.append(name)
             first = next((pair for pair in zip(rows, expected) if pair[0] != pair[1]), 'one ends before the other')
-            print(f'    ROWS DIFFER: the unit has {len(rows)}, SQLite {len(expected)}; the first that do: {first}')
+            print(f'    ROWS DIFFER: the unit has {len(rows)}, SQLite {len(expected)}; where first: {first}')
         memory = max(memory, peak_memory(query) if len(rows or []) > 2000 else 0)
     print(line.format('reading a book of 65,536 bytes, no query', '-', shown(reading_time()), '-', '-'))
     print(f'peak memory of the unit: {memory} kB resident, the loader and the C library among them')
