@@ -51,8 +51,8 @@ def cases():  # name, book, query, SQL; another SQL for the rows alone, where th
            'select distinct a1, a2 from t0 natural join t1 order by 1, 2')
     yield ('chain of three of 800, numbers not along it', chain([0, 2, 1], [pairs(800) for _ in range(3)]),
            items(0, 0, 3) + END, 'select distinct a0, a3 from t0 natural join t2 natural join t1 order by 1, 2')
-    cells = [tuple(random.randrange(low, low + (1 << 32)) for low in (0, -1 << 31, 0)) for _ in range(2500)]
-    yield ('2,500 rows in random order, three columns', Book([NAME, LENGTH, DATE], [[0, 1, 2]], [], [cells]),
+    cells = [tuple(random.randrange(low, low + (1 << 32)) for low in (-1 << 31, 0, 0)) for _ in range(2500)]
+    yield ('2,500 rows in random order, three columns', Book([LENGTH, NAME, DATE], [[0, 1, 2]], [], [cells]),
            items(0, 0, 1, 2) + END, 'select distinct a0, a1, a2 from t0 order by 1, 2, 3')
     dates = Book([DATE, DATE], [[0, 1]], [], [pairs(1200)])
     yield ('two variables of 1,200, equality across', dates,
@@ -63,9 +63,9 @@ def cases():  # name, book, query, SQL; another SQL for the rows alone, where th
     yield ('constant equality at the end of four of 600', chain(range(4), [pairs(600) for _ in range(4)]),
            items(0, 0) + compare_constant(0, 4, EQUAL, 77) + END,
            'select distinct a0 from t0 natural join t1 natural join t2 natural join t3 where a4 = 77 order by 1')
-    yield ('five complete tables of 22 by 22, both ends',
-           chain(range(5), [[(i, j) for i in range(22) for j in range(22)]] * 5), items(0, 0, 5) + END,
-           'select distinct a0, a5 from t0 natural join t1 natural join t2 natural join t3 natural join t4 order by 1, 2',
+    complete = [(i, j) for i in range(22) for j in range(22)]
+    yield ('five complete tables of 22 by 22, both ends', chain(range(5), [complete] * 5), items(0, 0, 5) + END,
+           'select distinct a0,a5 from t0 natural join t1 natural join t2 natural join t3 natural join t4 order by 1,2',
            'select distinct a0, a5 from (select distinct a0, a3 from t0 natural join t1 natural join t2) '
            'natural join (select distinct a3, a5 from t3 natural join t4) order by 1, 2')
 
@@ -131,12 +131,11 @@ def reading_time():  # seconds for a book of 65,536 bytes less those for an empt
 
 def peak_memory(query):  # kB resident at most; this query's output must be long
     with subprocess.Popen(UNIT, stdin=subprocess.PIPE, stdout=subprocess.PIPE) as unit:
-        unit.stdin.write(query * 100), unit.stdin.close()
+        unit.stdin.write(query * 100)
+        unit.stdin.close()
         unit.stdout.read(1 << 20)  # some answers; then the unit waits on a full pipe, and can be looked at
         with open(f'/proc/{unit.pid}/status') as status:
-            peak = next(int(line.split()[1]) for line in status if line.startswith('VmHWM'))
-        unit.stdout.read()
-    return peak
+            return next(int(line.split()[1]) for line in status if line.startswith('VmHWM'))
 
 def main():
     random.seed(7)
