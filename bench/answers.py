@@ -69,6 +69,43 @@ def cases():  # name, book, query, SQL; another SQL for the rows alone, where th
            'select distinct a0, a5 from (select distinct a0, a3 from t0 natural join t1 natural join t2) '
            'natural join (select distinct a3, a5 from t3 natural join t4) order by 1, 2')
 
+    complete = [(i, j) for i in range(9) for j in range(9)]
+    yield ('chain of 30 complete tables of 9 by 9, both ends', chain(range(30), [complete] * 30), items(0, 0, 30) + END,
+           f'select distinct a0, a30 from {" natural join ".join(f"t{k}" for k in range(30))} order by 1, 2',
+           'select distinct x.a0, y.a30 from t0 x, t29 y order by 1, 2')
+    several = Book([NAME] * 32, [[0, n + 1] for n in range(31)], [],
+                   [[(random.randrange(1000), i) for i in range(80)] for _ in range(31)])
+    union = 'with c as (' + ' union '.join(f'select a0 from t{n}' for n in range(31)) + ') '
+    for count in 3, 4:
+        compared = b''.join(compare(v, 0, LESS, v + 1, 0) for v in range(count - 1))
+        below = 'select max(a0) from c'
+        for _ in range(count - 2):
+            below = f'select max(a0) from c where a0 < ({below})'
+        yield (f'31 objects on one attribute, {count} variables', several, items(0, 0) + compared + END,
+               union + 'select distinct c0.a0 from ' + ', '.join(f'c c{v}' for v in range(count)) + ' where '
+               + ' and '.join(f'c{v}.a0 < c{v + 1}.a0' for v in range(count - 1)) + ' order by 1',
+               union + f'select a0 from c where a0 < ({below}) order by 1')
+    pairwise = Book([NAME] * 18, [o for k in range(1, 17) for o in ([0, k], [k, 17])],
+                    [([k], [17]) for k in range(1, 17)],
+                    [[(random.randrange(1000), i) if n % 2 == 0 else (i, random.randrange(1000)) for i in range(75)]
+                     for n in range(32)])
+    joins = ' union '.join(f'select a0, a17 from t{n} natural join t{n + 1}' for n in range(0, 32, 2))
+    union = f'with c as ({joins}) '
+    yield ('16 maximal objects of two tables, 3 variables', pairwise,
+           items(0, 0) + compare(0, 17, LESS, 1, 0) + compare(1, 17, LESS, 2, 0) + END,
+           union + 'select distinct x.a0 from c x, c y, c z where x.a17 < y.a0 and y.a17 < z.a0 order by 1',
+           union + 'select distinct a0 from c where a17 < (select max(a0) from c where a17 < (select max(a0) from c)) '
+           'order by 1')
+    ring = b''.join(compare(v, 1, LESS, (v + 1) % 4, 0) for v in range(4))
+    sql = ('select distinct x{}.a0 from t0 x0, t0 x1, t0 x2, t0 x3 where x0.a1 < x1.a0 and x1.a1 < x2.a0 and '
+           'x2.a1 < x3.a0 and x3.a1 < x0.a0 order by 1')
+    sixty = Book([DATE, DATE], [[0, 1]], [], [pairs(60)])
+    for of, v in ('first', 0), ('last', 3):
+        yield f'4 variables of 60, less in a ring, item of the {of}', sixty, items(v, 0) + ring + END, sql.format(v)
+    rising = Book([DATE, DATE], [[0, 1]], [], [[(i, i) for i in shuffled(60)]])
+    for of, v in ('first', 0), ('last', 3):
+        yield f'the same with no answer, item of the {of}', rising, items(v, 0) + ring + END, sql.format(v)
+
 def seconds(data, runs=RUNS):  # the unit's best time of some runs on this input, or None where the limit ends one
     best = LIMIT
     for _ in range(runs):
