@@ -6,7 +6,7 @@ use lib.Seq.{length-take-le}
 use Prim.Native.Nat.{_-_}
 use native.Mathlib.Omega.{arith}
 use lib.ListN.{length}
-use Rattle.answer.proofs.Returning.{memory-whole}
+use Rattle.choices.proofs.Starting.{memory-whole}
 use Rattle.unit.proofs.Going.{Going, going-at-first, printed-inside, read-inside, read-some, next-serial}
 use borrow.Author.Needs.{needs}
 use Rattle.unit.proofs.answer_all.Statement.{statement}
@@ -60,8 +60,7 @@ step-requires c κs =
     let loop = c .before .before .before .before .before .before .before .before .loop in (
       start .pre .0,
       (
-        memory-whole (loop .extents) (loop .layout) (loop .pools) (loop .spare) (loop .inv .levels)
-            (loop .inv .columns) (loop .inv .rows) (loop .inv .sorting),
+        memory-whole (loop .inv .levels) (loop .inv .columns) (loop .inv .rows) (omega (arith, loop .inv .sorting)),
         (
           start .pre .1,
           loop .inv .cells,
