@@ -73,7 +73,7 @@ def cases():  # name, book, query, SQL; another SQL for the rows alone, where th
     yield ('chain of 30 complete tables of 9 by 9, both ends', chain(range(30), [complete] * 30), items(0, 0, 30) + END,
            f'select distinct a0, a30 from {" natural join ".join(f"t{k}" for k in range(30))} order by 1, 2',
            'select distinct x.a0, y.a30 from t0 x, t29 y order by 1, 2')
-    several = Book([NAME] * 32, [[0, n + 1] for n in range(31)], [],
+    several = Book([DATE] * 32, [[0, n + 1] for n in range(31)], [],
                    [[(random.randrange(1000), i) for i in range(80)] for _ in range(31)])
     union = 'with c as (' + ' union '.join(f'select a0 from t{n}' for n in range(31)) + ') '
     for count in 3, 4:
@@ -85,7 +85,7 @@ def cases():  # name, book, query, SQL; another SQL for the rows alone, where th
                union + 'select distinct c0.a0 from ' + ', '.join(f'c c{v}' for v in range(count)) + ' where '
                + ' and '.join(f'c{v}.a0 < c{v + 1}.a0' for v in range(count - 1)) + ' order by 1',
                union + f'select a0 from c where a0 < ({below}) order by 1')
-    pairwise = Book([NAME] * 18, [o for k in range(1, 17) for o in ([0, k], [k, 17])],
+    pairwise = Book([DATE] * 18, [o for k in range(1, 17) for o in ([0, k], [k, 17])],
                     [([k], [17]) for k in range(1, 17)],
                     [[(random.randrange(1000), i) if n % 2 == 0 else (i, random.randrange(1000)) for i in range(75)]
                      for n in range(32)])
