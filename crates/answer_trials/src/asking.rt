@@ -110,8 +110,8 @@ pub fn at_the_bound() {
     ask(&out, &QUERY, 4294967295, &mut space);
 }
 
-// The attributes 0 and 1, the objects 0, 1 and 2 of them, and two declared maximal objects, of 0 and 1 and of 0 and 2, with
-// no row.
+// The attributes 0 and 1, the objects 0, 1 and 2 of them, and two declared maximal objects, of 0 and 1 and of 0 and 2,
+// with no row.
 fn products() -> [u8; 5260] {
     let mut book = [0u8; 5260];
     book[0] = 1;
