@@ -109,3 +109,81 @@ pub fn at_the_bound() {
     text::word(b"book of 65537 bytes, kind 7 in front");
     ask(&out, &QUERY, 4294967295, &mut space);
 }
+
+// The attributes 0 and 1, the objects 0, 1 and 2 of them, and two declared maximal objects, of 0 and 1 and of 0 and 2,
+// with no row.
+fn products() -> [u8; 5260] {
+    let mut book = [0u8; 5260];
+    book[0] = 1;
+    book[3] = 1;
+    book[4] = 1;
+    book[6] = 2;
+    book[8] = 1;
+    book[12] = 2;
+    book[13] = 1;
+    book[14] = 2;
+    book[18] = 2;
+    book[19] = 2;
+    book[20] = 2;
+    book[24] = 5;
+    book[25] = 3;
+    book[29] = 5;
+    book[30] = 5;
+    book
+}
+
+// Both attributes of variable 0, whose second is 200 and whose first is that of variable 1, which is 7.
+const IN_PRODUCTS: [u8; 29] = [
+    7,
+    0,
+    0,
+    7,
+    0,
+    1,
+    9,
+    0,
+    1,
+    0,
+    200,
+    0,
+    0,
+    0,
+    8,
+    0,
+    0,
+    0,
+    1,
+    0,
+    9,
+    1,
+    0,
+    0,
+    7,
+    0,
+    0,
+    0,
+    10,
+];
+
+// A variable whose connection has more rows than there is room for: objects 0 and 1 have a hundred rows each, and their
+// product is in the first maximal object. The row asked for is in the second.
+pub fn past_the_pools() {
+    let mut book = products();
+    book[5234] = 4;
+    book[5235] = 2;
+    book[5236] = 200;
+    let mut cell: u8 = 0;
+    let mut at: usize = 34;
+    while cell < 100 {
+        book[at] = 4;
+        book[at + 2] = cell;
+        book[at + 26] = 4;
+        book[at + 27] = 1;
+        book[at + 28] = cell;
+        cell += 1;
+        at += 52;
+    }
+    let mut space = [99u32; 3];
+    text::word(b"connection that does not fit");
+    ask(&book, &IN_PRODUCTS, 0, &mut space);
+}

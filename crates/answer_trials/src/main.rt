@@ -12,4 +12,5 @@ fn main() {
     let n = io::read_full(STDIN_FILENO, &mut input);
     asking::lines(&input[..n]);
     asking::at_the_bound();
+    asking::past_the_pools();
 }

@@ -74,8 +74,12 @@ use Rattle.sorted.proofs.less_row.Met.{met as sorted-less-row}
 use Rattle.sorted.proofs.put.Met.{met as sorted-put}
 use Rattle.sorted.proofs.seek.Met.{met as sorted-seek}
 use Rattle.sorted.proofs.sort.Met.{met as sorted-sort}
+use Rattle.seen.proofs.is_there.Met.{met as seen-is-there}
+use Rattle.seen.proofs.remember.Met.{met as seen-remember}
 use Rattle.search.proofs.search.Met.{met as search-search}
 use Rattle.terms.proofs.terms_of.Met.{met as terms-terms-of}
+use Rattle.plan.proofs.columns_of.Met.{met as plan-columns-of}
+use Rattle.plan.proofs.lay_level.Met.{met as plan-lay-level}
 use Rattle.plan.proofs.plan_object.Met.{met as plan-plan-object}
 use Rattle.connection.proofs.refused.Met.{met as connection-refused}
 use Rattle.choices.proofs.nothing_planned.Met.{met as choices-nothing-planned}
@@ -119,13 +123,14 @@ use Rattle.query.proofs.Examples.{trials-hold as query-trials-hold}
 use Rattle.sorted.proofs.Theorems.{rows-ordered, determined-by-members, row-more, rows-more, rows-sorted}
 use Rattle.sorted.proofs.Theorems.{ascending-by-first-columns, next-same}
 use Rattle.sorted.proofs.Examples.{trials-hold as sorted-trials-hold}
-use Rattle.search.proofs.Theorems.{combinations-fit, fill-means}
+use Rattle.search.proofs.Theorems.{combinations-fit, fill-means, live-decides}
 use Rattle.search.proofs.Examples.{trials-hold as search-trials-hold}
 use Rattle.plan.proofs.Theorems.{rows-read, rows-apart}
 use Rattle.connection.proofs.Theorems.{names-in-range, connection-listed, answer-listed, combinations-give, answer-fits}
 use Rattle.connection.proofs.Theorems.{answer-in-range}
 use Rattle.connection.proofs.Theorems.{one-kept-set, answer-number-means, demand1, promise-e}
 use Rattle.connection.proofs.Examples.{outcomes-hold, rows-hold}
+use Rattle.choices.proofs.Theorems.{same-rows-either-way}
 use Rattle.printout.proofs.Theorems.{in-decimal, cells-read, texts-read, fit-tested, text-printed, answer-printed}
 use Rattle.printout.proofs.Theorems.{room-enough}
 use Rattle.printout.proofs.Examples.{trials-hold as printout-trials-hold}
