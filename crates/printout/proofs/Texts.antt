@@ -113,7 +113,7 @@ module _ (text bytes : List ℕ) where
   }
 
   -- as the code gives it
-  whole-printed : length text ≤ length bytes → {n : ℕ} {out : List ℕ}
+  pub whole-printed : length text ≤ length bytes → {n : ℕ} {out : List ℕ}
       → (n ≡ 0 + length text) × (out ≡ written 0 text bytes) → (Bytes n ≡ printed text bytes) × (out ≡ after text bytes)
   unfolding written
   whole-printed h p = (
@@ -121,7 +121,7 @@ module _ (text bytes : List ℕ) where
     p .1 ∙ ap (λ (n : ℕ). text ++ drop n bytes) (zero-add (length text)) ∙ sym (text-printed .whole h .1),
   )
 
-  none-printed : length bytes < length text → (NoRoom ≡ printed text bytes) × (bytes ≡ after text bytes)
+  pub none-printed : length bytes < length text → (NoRoom ≡ printed text bytes) × (bytes ≡ after text bytes)
   none-printed h = (sym (text-printed .noRoom h .0), sym (text-printed .noRoom h .1))
 
 -- ---- refusals

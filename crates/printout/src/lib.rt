@@ -329,6 +329,17 @@ pub fn print_answer(
     Printed::Bytes(put_rows(out, at, kinds, cells, rows))
 }
 
+// Prints a text as it is.
+pub fn print_text(text: &[u8], out: &mut [u8]) -> Printed
+    ensures { λ r. ⌜ r ≡ printed (now (text .entry)) (now (out .entry)) ⌝ }
+    ensures { λ _. ⌜ now (out .exit) ≡ after (now (text .entry)) (now (out .entry)) ⌝ }
+{
+    if out.len() < text.len() {
+        return Printed::NoRoom;
+    }
+    Printed::Bytes(put_text(out, 0, text))
+}
+
 // Prints a line of some words, a space behind each, and a number.
 fn print_refusal(words: &[u8], number: u8, out: &mut [u8]) -> Printed
     requires { ⌜ length (now words) ≤ 14 ⌝ }

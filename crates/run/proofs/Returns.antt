@@ -35,7 +35,7 @@ use Rattle.printout.proofs.Theorems.{text-printed, answer-printed, room-enough}
 use Rattle.run.specs.declared.Stepped.{Stepped}
 use Rattle.run.specs.declared.ItemKinds.{ItemKinds}
 use Rattle.run.specs.Running.{room, numberOf, kindsOf, fullText, textOf, openingText, bytesOf, openingOf, stepOf}
-use Rattle.run.specs.Items.{GoodQuery, KindsOf}
+use Rattle.run.specs.Items.{GoodQuery, KindsOf, itemKindsOf, ItemKindsOf}
 use Rattle.run.proofs.Answering.{answered-prints}
 use Rattle.run.proofs.Stepping.{step-answered, step-refused, text-answered, text-refused, goes}
 
@@ -134,6 +134,58 @@ kinds-found {q = q} g m w u =
       long = u .items .long .1;
       few = omega (arith, u .items .count, i .eight);
       each = λ b e z. kinds-are b e z q m w y u;
+    }
+
+-- the items of a query over the bytes of a book
+module _ (b : List ℕ) {book : Book} (e : book ≡ bookOf (read b)) (q : List ℕ) where
+  none-are : {k : ItemKinds} → (k .items ≡ 0) × (length (k .kinds) ≡ 8) → itemKindsOf b q ≡ [] → ItemKindsOf b q k
+  none-are {k} z n = record {
+    long = z .1;
+    few = omega (arith, z .0);
+    are = ap (λ (i : ℕ). take i (k .kinds)) (z .0) ∙ sym n;
+  }
+
+  pub kinds-no-book : {k : ItemKinds} → (book .refusal ≡ 0 → ⊥) → (k .items ≡ 0) × (length (k .kinds) ≡ 8)
+      → ItemKindsOf b q k
+  unfolding itemKindsOf
+  kinds-no-book d z =
+      none-are z (rw (itemKindsOf, ne-eqb (read b .number) 0 (λ y. d (number-is b e ∙ y))))
+
+  module _ (y : book .refusal ≡ 0) {maximal : List ℕ} {query : Query}
+      (m : maximal ≡ take (book .maximals) (book .maximal))
+      (w : query ≡ Querying.queryOf (Querying.read (book .scheme) maximal q)) where
+    good-number : read b .number ≡ 0
+    good-number = sym (number-is b e) ∙ y
+
+    pub kinds-no-query : {k : ItemKinds} → (query .refusal ≡ 0 → ⊥) → (k .items ≡ 0) × (length (k .kinds) ≡ 8)
+        → ItemKindsOf b q k
+    unfolding itemKindsOf
+    kinds-no-query d z =
+        none-are z (rw (
+          itemKindsOf,
+          eq-eqb (read b .number) 0 good-number,
+          ne-eqb (queryRead (read b) q .number) 0 (λ x. d (good-query b e good-number q m w x)),
+        ))
+
+    pub query-there : query .refusal ≡ 0 → GoodQuery book q
+    query-there x = record {
+      bytes = b;
+      isRead = e;
+      goodBook = good-number;
+      goodQuery = query-good b e good-number q m w x;
+    }
+
+    pub kinds-there : {k : ItemKinds} → query .refusal ≡ 0 → KindsOf book q k → ItemKindsOf b q k
+    unfolding itemKindsOf
+    kinds-there x k = record {
+      long = k .long;
+      few = k .few;
+      are =
+          k .each b e good-number ∙ sym (rw (
+            itemKindsOf,
+            eq-eqb (read b .number) 0 good-number,
+            eq-eqb (queryRead (read b) q .number) 0 (query-good b e good-number q m w x),
+          ));
     }
 
 -- ---- a step

@@ -1,14 +1,19 @@
--- The value kinds of the items of a query over a book that was read, as the code has them.
+-- The value kinds of the items of a query over a book, as the code has them.
+-- In order: a book that was read, the bytes of a book.
 -- Assumes nothing.
 use mathlib.Core.Path.{_≡_}
-use mathlib.Core.List.{List}
+use mathlib.Core.Bool.{true, false}
+use mathlib.Core.List.{List, []}
 use Prim.Native.Nat.{ℕ, _≤_}
+use lib.Dec.{eqb}
 use lib.ListN.{length, take}
 use Rattle.book.specs.declared.Book.{Book}
 use Rattle.book.specs.Reading.{read, bookOf}
 use Rattle.connection.specs.Answering.{queryRead}
 use Rattle.run.specs.declared.ItemKinds.{ItemKinds}
 use Rattle.run.specs.Running.{kindsOf}
+
+-- ---- a book that was read
 
 -- the book is what reading some bytes gave, and neither it nor the query is refused for itself
 pub record GoodQuery (book : Book) (q : List ℕ) : Type 0 where
@@ -22,3 +27,18 @@ pub record KindsOf (book : Book) (q : List ℕ) (k : ItemKinds) : Type 0 where
   pub long : length (k .kinds) ≡ 8
   pub few : k .items ≤ 8
   pub each : (b : List ℕ) → book ≡ bookOf (read b) → read b .number ≡ 0 → take (k .items) (k .kinds) ≡ kindsOf b q
+
+-- ---- the bytes of a book
+
+-- none where the book or the query is refused for itself
+unfoldable pub itemKindsOf : List ℕ → List ℕ → List ℕ
+itemKindsOf b q =
+    elim (eqb (read b .number) 0) [
+      | true ↦ elim (eqb (queryRead (read b) q .number) 0) [ true ↦ kindsOf b q | false ↦ [] ]
+      | false ↦ []
+    ]
+
+pub record ItemKindsOf (b q : List ℕ) (k : ItemKinds) : Type 0 where
+  pub long : length (k .kinds) ≡ 8
+  pub few : k .items ≤ 8
+  pub are : take (k .items) (k .kinds) ≡ itemKindsOf b q

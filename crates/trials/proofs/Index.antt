@@ -80,6 +80,7 @@ use Rattle.search.proofs.search.Met.{met as search-search}
 use Rattle.terms.proofs.terms_of.Met.{met as terms-terms-of}
 use Rattle.plan.proofs.columns_of.Met.{met as plan-columns-of}
 use Rattle.plan.proofs.lay_level.Met.{met as plan-lay-level}
+use Rattle.plan.proofs.own_of.Met.{met as plan-own-of}
 use Rattle.plan.proofs.plan_object.Met.{met as plan-plan-object}
 use Rattle.connection.proofs.refused.Met.{met as connection-refused}
 use Rattle.choices.proofs.nothing_planned.Met.{met as choices-nothing-planned}
@@ -87,10 +88,16 @@ use Rattle.choices.proofs.choose.Met.{met as choices-choose}
 use Rattle.answer.proofs.answer_book.Met.{met as answer-answer-book}
 use Rattle.answer.proofs.answer_bytes.Met.{met as answer-answer-bytes}
 use Rattle.printout.proofs.print_answer.Met.{met as printout-print-answer}
+use Rattle.printout.proofs.print_text.Met.{met as printout-print-text}
 use Rattle.printout.proofs.print_book_refusal.Met.{met as printout-print-book-refusal}
 use Rattle.printout.proofs.print_query_refusal.Met.{met as printout-print-query-refusal}
 use Rattle.run.proofs.opening.Met.{met as run-opening}
 use Rattle.run.proofs.step.Met.{met as run-step}
+use Rattle.run.proofs.item_kinds.Met.{met as run-item-kinds}
+use Rattle.host.proofs.vingarbu_answer.Met.{met as host-vingarbu-answer}
+use Rattle.host.proofs.vingarbu_kinds.Met.{met as host-vingarbu-kinds}
+use Rattle.host.proofs.vingarbu_print.Met.{met as host-vingarbu-print}
+use Rattle.host.proofs.vingarbu_refusal_text.Met.{met as host-vingarbu-refusal-text}
 -- ---- theorems
 use Rattle.sets.proofs.Theorems.{members-of-sets, equal-sets, containment, rank-and-count, lowest-member}
 use Rattle.sets.proofs.Theorems.{members-listed}

@@ -1,0 +1,3 @@
+-- The laws of `host`. Assumes nothing.
+pub mod Given
+pub mod Words

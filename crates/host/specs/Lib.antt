@@ -1,0 +1,3 @@
+-- The definitions of `host`, in the order to read them. Assumes nothing.
+pub mod Results
+pub mod Words
