@@ -4,9 +4,6 @@ use Rattle.host.proofs.Given.{bytes-here, told-short, told-not-fit}
 use borrow.Author.Needs.{needs}
 use Rattle.host.proofs.report.Statement.{statement}
 use Rattle.host.proofs.report.Tie as tie
-use Rattle.host.proofs.report.Reads as reads
-use Rattle.host.proofs.report.Lts as lts
-use Rattle.host.proofs.of_size.Reads as of-size-reads
 
 enum-known-p : tie.Need-enum-known-p
 enum-known-p c = search needs

@@ -1,18 +1,12 @@
-use lib.ListN.{set}
 -- `host::vingarbu_answer` meets its contract: there is no room for the results, or the answer is given.
 -- Assumes nothing.
+use lib.ListN.{set}
 use native.Mathlib.Omega.{arith}
 use lib.ListN.{length-set}
 use Rattle.host.proofs.Given.{answer-short, answer-done}
 use borrow.Author.Needs.{needs}
 use Rattle.host.proofs.vingarbu_answer.Statement.{statement}
 use Rattle.host.proofs.vingarbu_answer.Tie as tie
-use Rattle.host.proofs.vingarbu_answer.Reads as reads
-use Rattle.host.proofs.vingarbu_answer.Lts as lts
-use Rattle.answer.proofs.answer_bytes.Reads as answer-bytes-reads
-use Rattle.host.proofs.of_byte.Reads as of-byte-reads
-use Rattle.host.proofs.of_size.Reads as of-size-reads
-use Rattle.host.proofs.of_word.Reads as of-word-reads
 
 returns : tie.Need-returns
 returns c = answer-short _ _ _ _ _ (c .if1 .taken)
@@ -30,13 +24,29 @@ of-size-requires : tie.Need-of-size-requires
 of-size-requires c κs = search needs
 
 slice-write-results-2 : tie.Need-slice-write-results-2
-slice-write-results-2 c = omega (arith, length-set (c .before .before .before .before .before .before .before .before .before .before .before .args .results .now) 0 (c .before .of-byte .result), c .before .before .before .before .before .before .if1 .left)
+slice-write-results-2 c =
+    let start = c .before .before .before .before .before .before .before .before .before .before .before in
+    omega (
+      arith,
+      length-set (start .args .results .now) 0 (c .before .of-byte .result),
+      c .before .before .before
+          .before .before .before .if1 .left,
+    )
 
 of-word-requires : tie.Need-of-word-requires
 of-word-requires c κs = search needs
 
 slice-write-results-3 : tie.Need-slice-write-results-3
-slice-write-results-3 c = omega (arith, length-set (set (c .before .before .before .before .before .before .before .before .before .before .before .before .args .results .now) 0 (c .before .before .of-byte .result)) 1 (c .before .of-size .result), length-set (c .before .before .before .before .before .before .before .before .before .before .before .before .args .results .now) 0 (c .before .before .of-byte .result), c .before .before .before .before .before .before .before .if1 .left)
+slice-write-results-3 c =
+    let start = c .before .before .before .before .before .before .before .before .before .before .before .before in
+    omega (
+      arith,
+      length-set (set (start .args .results .now) 0 (c .before .before .of-byte .result)) 1 (c .before
+          .of-size .result),
+      length-set (start .args .results .now) 0 (c .before .before .of-byte .result),
+      c .before
+          .before .before .before .before .before .before .if1 .left,
+    )
 
 of-size-requires-2 : tie.Need-of-size-requires-2
 of-size-requires-2 c κs = search needs
@@ -51,7 +61,13 @@ same-length-2 : tie.Need-same-length-2
 same-length-2 c = search needs
 
 returns-2 : tie.Need-returns-2
-returns-2 c = answer-done _ _ _ _ _ (omega (arith, c .before .before .before .before .before .before .before .before .if1 .left)) (c .before .before .before .before .before .before .answer-bytes .ensures) (c .before .before .before .of-byte .ensures) (c .before .before .of-size .ensures) (c .before .of-word .ensures) (c .of-size2 .ensures)
+returns-2 c =
+    answer-done _ _ _ _ _ (omega (
+      arith,
+      c .before .before .before .before .before .before .before .before .if1
+          .left,
+    )) (c .before .before .before .before .before .before .answer-bytes .ensures) (c .before .before .before
+    .of-byte .ensures) (c .before .before .of-size .ensures) (c .before .of-word .ensures) (c .of-size2 .ensures)
 
 pub vingarbu-answer-spec : {M : Type 1} → statement M
 vingarbu-answer-spec =

@@ -10,11 +10,6 @@ use Rattle.host.proofs.Given.{give-short, give-done}
 use borrow.Author.Needs.{needs}
 use Rattle.host.proofs.vingarbu_kinds.Statement.{statement}
 use Rattle.host.proofs.vingarbu_kinds.Tie as tie
-use Rattle.host.proofs.vingarbu_kinds.Reads as reads
-use Rattle.host.proofs.vingarbu_kinds.Lts as lts
-use Rattle.host.proofs.report.Reads as report-reads
-use Rattle.printout.proofs.print_text.Reads as print-text-reads
-use Rattle.run.proofs.item_kinds.Reads as item-kinds-reads
 
 returns : tie.Need-returns
 returns c = give-short _ _ _ _ (c .if1 .taken)
@@ -26,7 +21,13 @@ array-share-prefix-found : tie.Need-array-share-prefix-found
 array-share-prefix-found c = search needs
 
 slice-aggregate-print-text : tie.Need-slice-aggregate-print-text
-slice-aggregate-print-text c = sym (length-take-le _ _ (omega (arith, c .before .before .item-kinds .ensures .few, c .before .before .item-kinds .ensures .long)))
+slice-aggregate-print-text c =
+    sym (length-take-le _ _ (omega (
+      arith,
+      c .before .before .item-kinds .ensures .few,
+      c .before .before
+          .item-kinds .ensures .long,
+    )))
 
 print-text-requires : tie.Need-print-text-requires
 print-text-requires c κs = search needs
@@ -41,7 +42,19 @@ same-length-2 : tie.Need-same-length-2
 same-length-2 c = search needs
 
 returns-2 : tie.Need-returns-2
-returns-2 c = give-done _ _ _ _ (omega (arith, c .before .before .before .before .before .before .before .before .before .before .before .if1 .left)) (c .before .before .before .before .before .before .print-text .ensures .0 ∙ ap (λ (x : List ℕ). printed x (c .before .before .before .before .before .before .before .before .before .before .before .before .before .before .before .before .args .kinds .now)) (c .before .before .before .before .before .before .before .before .before .before .item-kinds .ensures .are)) (c .before .before .before .before .before .before .print-text .ensures .1 ∙ ap (λ (x : List ℕ). after x (c .before .before .before .before .before .before .before .before .before .before .before .before .before .before .before .before .args .kinds .now)) (c .before .before .before .before .before .before .before .before .before .before .item-kinds .ensures .are)) (c .before .before .report .ensures)
+returns-2 c =
+    let start = c .before .before .before .before .before .before .before .before .before .before .before .before
+    .before .before .before .before in
+    give-done _ _ _ _ (omega (
+      arith,
+      c .before .before .before .before .before .before .before .before .before
+          .before .before .if1 .left,
+    )) (c .before .before .before .before .before .before .print-text .ensures .0 ∙ ap (λ
+    (x : List ℕ). printed x (start .args .kinds .now)) (c .before .before .before .before .before .before .before
+    .before .before .before .item-kinds .ensures .are)) (c .before .before .before .before .before .before
+    .print-text .ensures .1 ∙ ap (λ (x : List ℕ). after x (start .args .kinds .now)) (c .before .before .before
+    .before .before .before .before .before .before .before .item-kinds .ensures .are)) (c .before .before .report
+    .ensures)
 
 pub vingarbu-kinds-spec : {M : Type 1} → statement M
 vingarbu-kinds-spec =

@@ -5,10 +5,6 @@ use Rattle.host.proofs.Given.{give-short, give-done}
 use borrow.Author.Needs.{needs}
 use Rattle.host.proofs.vingarbu_refusal_text.Statement.{statement}
 use Rattle.host.proofs.vingarbu_refusal_text.Tie as tie
-use Rattle.host.proofs.vingarbu_refusal_text.Reads as reads
-use Rattle.host.proofs.vingarbu_refusal_text.Lts as lts
-use Rattle.host.proofs.print_words.Reads as print-words-reads
-use Rattle.host.proofs.report.Reads as report-reads
 
 returns : tie.Need-returns
 returns c = give-short _ _ _ _ (c .if1 .taken)
@@ -26,7 +22,10 @@ same-length-2 : tie.Need-same-length-2
 same-length-2 c = search needs
 
 returns-2 : tie.Need-returns-2
-returns-2 c = give-done _ _ _ _ (omega (arith, c .before .before .before .before .before .before .before .before .if1 .left)) (c .before .before .before .before .before .before .print-words .ensures .0) (c .before .before .before .before .before .before .print-words .ensures .1) (c .before .before .report .ensures)
+returns-2 c =
+    give-done _ _ _ _ (omega (arith, c .before .before .before .before .before .before .before .before .if1 .left))
+    (c .before .before .before .before .before .before .print-words .ensures .0) (c .before .before .before .before
+    .before .before .print-words .ensures .1) (c .before .before .report .ensures)
 
 pub vingarbu-refusal-text-spec : {M : Type 1} → statement M
 vingarbu-refusal-text-spec =

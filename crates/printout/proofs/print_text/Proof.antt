@@ -5,9 +5,6 @@ use native.Mathlib.Omega.{arith}
 use borrow.Author.Needs.{needs}
 use Rattle.printout.proofs.print_text.Statement.{statement}
 use Rattle.printout.proofs.print_text.Tie as tie
-use Rattle.printout.proofs.print_text.Reads as reads
-use Rattle.printout.proofs.print_text.Lts as lts
-use Rattle.printout.proofs.put_text.Reads as put-text-reads
 
 returns : tie.Need-returns
 returns c = none-printed _ _ (c .if1 .taken)
@@ -19,7 +16,9 @@ same-length : tie.Need-same-length
 same-length c = search needs
 
 returns-2 : tie.Need-returns-2
-returns-2 c = whole-printed _ _ (omega (arith, c .before .before .before .before .if1 .left)) (c .before .before .put-text .ensures)
+returns-2 c =
+    whole-printed _ _ (omega (arith, c .before .before .before .before .if1 .left)) (c .before .before .put-text
+    .ensures)
 
 pub print-text-spec : {M : Type 1} → statement M
 print-text-spec = tie.close (tie.spec returns put-text-requires same-length returns-2)

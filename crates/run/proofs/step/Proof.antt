@@ -65,7 +65,8 @@ kinds-of-requires c κs =
       goodBook = start .pre .1 .1 .0;
       goodQuery =
           query-answered (start .args .bytes .now) (start .args .query .now) (start .args .serial) (start .args .space
-          .now) (start .args .out .now) (start .pre .1 .1 .1) (start .pre .1 .1 .2) (answer-book .ensures .0) (answer-book
+          .now) (start .args .out .now) (start .pre .1 .1 .1) (start .pre .1 .1 .2) (answer-book .ensures .0)
+          (answer-book
           .ensures .1) (c .if1 .left);
     }
 
