@@ -3,6 +3,7 @@ pub mod Tests
 pub mod Numbers
 pub mod Bits
 pub mod Sets
+pub mod Plain
 pub mod Ranks
 pub mod Members
 pub mod Theorems

@@ -5,12 +5,13 @@ use mathlib.Core.Logic.{⊎-elim}
 use Prim.Native.Nat.{ℕ}
 use Rattle.sets.specs.Sets.{_∈_, single}
 use Rattle.sets.specs.Statements.{MembersOfSets, EqualSets, Containment, RankAndCount, LowestMember}
-use Rattle.sets.specs.Statements.{MembersListed}
+use Rattle.sets.specs.Statements.{PlainContainment, MembersListed}
 use Rattle.sets.proofs.Bits.{member-or-not}
 use Rattle.sets.proofs.Sets.{has-yes, yes-has, ∩-in, ∩-left, ∩-right, ∪-left, ∪-right, ∪-cases}
 use Rattle.sets.proofs.Sets.{∖-in, ∖-left, ∖-out}
 use Rattle.sets.proofs.Sets.{in-single, single-in, ext, no-members, isEmpty-yes, yes-isEmpty, within-yes}
 use Rattle.sets.proofs.Sets.{yes-within, ⊆-le}
+use Rattle.sets.proofs.Plain.{each-yes, yes-each, plain-agrees}
 use Rattle.sets.proofs.Ranks.{rank-lt-count, rank-lt, ones-count, lowest-in, below-lowest, lowest-le}
 use Rattle.sets.proofs.Members.{members-has, members-only, members-ascending, length-members, getD-members}
 
@@ -29,6 +30,9 @@ equal-sets s t = record { extensional = ext; empty = no-members; emptyTest = (ye
 
 pub containment : (s t : ℕ) → Containment s t
 containment s t = record { test = (yes-within s t, within-yes); notLarger = ⊆-le }
+
+pub plain-containment : (w s t : ℕ) → PlainContainment w s t
+plain-containment w s t = record { plain = (yes-each w s t, each-yes w s t); agree = plain-agrees w s t }
 
 pub rank-and-count : (w s : ℕ) → RankAndCount w s
 rank-and-count w s = record {

@@ -4,7 +4,7 @@
 -- count, the lowest member, the list of members. Not here: which sets a book may have (`scheme`, `book`).
 -- Assumes nothing.
 use mathlib.Core.Path.{_≡_}
-use mathlib.Core.Bool.{Bool, true, false}
+use mathlib.Core.Bool.{Bool, true, false, not, _&&_, _||_}
 use mathlib.Core.List.{List, [], _∷_, _++_}
 use Prim.Native.Nat.{ℕ, zero, suc, _+_, _/_, _%_, _^_}
 use lib.Bits.{bitAnd, bitOr, bitXor}
@@ -41,6 +41,11 @@ pub record _⊆_ (s t : ℕ) : Type 0 where
 -- the test of containment, by arithmetic on the whole set: what s and t share is s
 unfoldable pub within : ℕ → ℕ → Bool
 within s t = eqb (bitAnd s t) s
+
+-- the plain form of the test, which asks attribute by attribute: each below w that s has, t has
+unfoldable pub withinEach : ℕ → ℕ → ℕ → Bool
+withinEach zero s t = true
+withinEach (suc w) s t = (not (has s w) || has t w) && withinEach w s t
 
 -- ---- sets made of sets
 

@@ -1,7 +1,7 @@
 -- What is proved of sets, for every number and so for every width together. The proofs are in `proofs/Theorems.antt`,
 -- in this order.
--- In order: members of sets made of sets, equal sets, containment, rank and count, the lowest member, the list of
--- members.
+-- In order: members of sets made of sets, equal sets, containment and its plain form, rank and count, the lowest
+-- member, the list of members.
 -- Assumes nothing.
 use mathlib.Core.Path.{_≡_}
 use mathlib.Core.Bool.{true}
@@ -10,8 +10,8 @@ use mathlib.Core.List.{List·Memᴰ}
 use Prim.Native.Nat.{ℕ, _^_, _≤_, _<_}
 use lib.Count.{ones}
 use lib.ListN.{length, getD}
-use Rattle.sets.specs.Sets.{_∈_, _∉_, has, _⊆_, within, _∩_, _∪_, _∖_, single, isEmpty, rank, count, lowest}
-use Rattle.sets.specs.Sets.{members}
+use Rattle.sets.specs.Sets.{_∈_, _∉_, has, _⊆_, within, withinEach, _∩_, _∪_, _∖_, single, isEmpty, rank, count}
+use Rattle.sets.specs.Sets.{lowest, members}
 
 -- who is a member of the sets that are made of s and t
 pub record MembersOfSets (s t k : ℕ) : Type 0 where
@@ -33,6 +33,12 @@ pub record EqualSets (s t : ℕ) : Type 0 where
 pub record Containment (s t : ℕ) : Type 0 where
   pub test : (within s t ≡ true) ↔ (s ⊆ t)
   pub notLarger : s ⊆ t → s ≤ t
+
+-- request 4, "A plain form that asks attribute by attribute is kept beside it, and the two are shown to agree on all
+-- pairs of sets": of sets of w bits, for every w
+pub record PlainContainment (w s t : ℕ) : Type 0 where
+  pub plain : (withinEach w s t ≡ true) ↔ ((k : ℕ) → k < w → k ∈ s → k ∈ t)
+  pub agree : s < 2 ^ w → withinEach w s t ≡ within s t
 
 -- the rank of a member is below the count, ranks ascend strictly over the members, and the count is that of the ones
 pub record RankAndCount (w s : ℕ) : Type 0 where

@@ -2,7 +2,7 @@
 // whole set; its contract is an equation with a definition of specs/Sets.antt, which holds for every width.
 ghost use mathlib.Core.Path.{_≡_};
 ghost use Prim.Native.Nat.{_<_};
-ghost use Rattle.sets.specs.Sets.{has, within, _∩_, _∪_, _∖_, single, insert, remove, isEmpty};
+ghost use Rattle.sets.specs.Sets.{has, within, withinEach, _∩_, _∪_, _∖_, single, insert, remove, isEmpty};
 ghost use Rattle.sets.specs.Sets.{rank, count, lowest};
 
 // Attributes are numbered from 0 on, and so are objects: how many of each there may be, and the sets of them. The
@@ -28,6 +28,22 @@ pub fn within(s: u32, t: u32) -> bool
     ensures { λ r. ⌜ r ≡ within s t ⌝ }
 {
     (s & t) == s
+}
+
+// Whether s lies within t, asked attribute by attribute: the plain form of `within`, which the program does not use.
+pub fn within_each(s: u32, t: u32) -> bool
+    ensures { λ r. ⌜ r ≡ withinEach 32 s t ⌝ }
+{
+    let mut k: u32 = 0;
+    while k < 32 {
+        if has(s, k) {
+            if !has(t, k) {
+                return false;
+            }
+        }
+        k += 1;
+    }
+    true
 }
 
 // The members of both.

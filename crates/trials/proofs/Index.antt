@@ -30,6 +30,7 @@ use Rattle.book.specs.Statements.{TablesOfBook, MaximalObjectsOfBook}
 -- ---- contracts: each is that the function meets its `ensures` for all inputs
 use Rattle.sets.proofs.has.Met.{met as sets-has}
 use Rattle.sets.proofs.within.Met.{met as sets-within}
+use Rattle.sets.proofs.within_each.Met.{met as sets-within-each}
 use Rattle.sets.proofs.intersection.Met.{met as sets-intersection}
 use Rattle.sets.proofs.union.Met.{met as sets-union}
 use Rattle.sets.proofs.difference.Met.{met as sets-difference}
@@ -100,7 +101,7 @@ use Rattle.host.proofs.vingarbu_print.Met.{met as host-vingarbu-print}
 use Rattle.host.proofs.vingarbu_refusal_text.Met.{met as host-vingarbu-refusal-text}
 -- ---- theorems
 use Rattle.sets.proofs.Theorems.{members-of-sets, equal-sets, containment, rank-and-count, lowest-member}
-use Rattle.sets.proofs.Theorems.{members-listed}
+use Rattle.sets.proofs.Theorems.{members-listed, plain-containment}
 use Rattle.values.proofs.Theorems.{ordered-by-value, operators-mean, table-allows, allowed-means, turned}
 use Rattle.values.proofs.Examples.{trials-hold as values-trials-hold}
 use Rattle.records.proofs.Theorems.{fields-inverse, kind-then-body, reads-back, was-written, answers-mean, walk-exactly}

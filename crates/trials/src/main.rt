@@ -1,12 +1,14 @@
 // The trials that a program checks: what it writes is held to the file stdout, which is written from the paper.
 mod books_trial;
 mod queries_trial;
+mod sets_trial;
 mod text;
 mod values_trial;
 
 use libc::STDIN_FILENO;
 
 fn main() {
+    sets_trial::containment();
     values_trial::operators();
     values_trial::ranges();
     values_trial::orders();
