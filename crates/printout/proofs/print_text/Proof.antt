@@ -7,7 +7,7 @@ use Rattle.printout.proofs.print_text.Statement.{statement}
 use Rattle.printout.proofs.print_text.Tie as tie
 
 returns : tie.Need-returns
-returns c = none-printed _ _ (c .if1 .taken)
+returns c = none-printed _ _ (omega (arith, c .if1 .taken))
 
 put-text-requires : tie.Need-put-text-requires
 put-text-requires c κs = search needs
