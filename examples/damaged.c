@@ -52,17 +52,14 @@ static size_t read_file(const char *name, uint8_t *bytes) {
 /* What a call may have done to a space of n cells between guards: all of them lie in `now`, and lay in `before`. */
 static void look(const uint32_t *before, const uint32_t *now, size_t n, const uint64_t *results, size_t items,
                  unsigned long call) {
-    size_t from = GUARD, to = GUARD;
-    if (results[0] == 13) {
-        for (to += n; from < to; from++)
-            if (now[from] != 0) fail("a cell of a space that is too small is not zero", call);
-    } else if (results[0] == 0) {
-        to = from = GUARD + results[1] * items;
-        if (results[1] * items > n) fail("more cells than the space has", call);
-    }
+    size_t written = results[0] == 13 ? n : results[0] == 0 ? results[1] * items : 0;
+    if (written > n) fail("more cells than the space has", call);
     for (size_t i = 0; i < CELLS + 2 * GUARD; i++) {
-        int written = results[0] == 13 ? i >= GUARD && i < GUARD + n : i >= GUARD && i < from;
-        if (!written && now[i] != before[i]) fail("a cell outside the answer has changed", call);
+        if (i < GUARD || i >= GUARD + written) {
+            if (now[i] != before[i]) fail("a cell outside the answer has changed", call);
+        } else if (results[0] == 13 && now[i] != 0) {
+            fail("a cell of a space that is too small is not zero", call);
+        }
     }
 }
 
@@ -108,7 +105,15 @@ int main(int argc, char **argv) {
         statuses[status]++;
         room = below(VINGARBU_WORDS + 1);
         memcpy(old, text, LONGEST);
-        status = vingarbu_refusal_text((uint32_t)below(18), text, room, &printed, below(8) != 0);
+        uint32_t number = (uint32_t)below(18);
+        size_t lent = below(8) != 0;
+        printed = VINGARBU_WORDS + 1;
+        status = vingarbu_refusal_text(number, text, room, &printed, lent);
+        int refusal = number >= 1 && number <= VINGARBU_REFUSALS;
+        if (lent == 0 ? status != VINGARBU_SHORT : (status == VINGARBU_NOT_FIT) == refusal) fail("another status", call);
+        if (status == VINGARBU_DONE ? printed > room || printed == 0 : printed != VINGARBU_WORDS + 1)
+            fail("another length of the words", call);
+        if (lent == 1 && refusal && room == VINGARBU_WORDS && status != VINGARBU_DONE) fail("words that do not fit", call);
         for (size_t i = status == VINGARBU_DONE ? printed : 0; i < LONGEST; i++)
             if (text[i] != old[i]) fail("a byte behind the words has changed", call);
         statuses[status]++;

@@ -48,7 +48,8 @@ def main():
         if number != 0:
             refused('query', number)
         call('vingarbu_kinds', lent, asked, kinds, one)
-        call('vingarbu_print', word(serial), cells64(rows), (kinds, one[0]), space, text, one)
+        if call('vingarbu_print', word(serial), cells64(rows), (kinds, one[0]), space, text, one) != 0:
+            sys.exit('an answer was not printed')
         sys.stdout.write(bytes(text[:one[0]]).decode())
         queries = queries[used:]
 
