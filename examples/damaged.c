@@ -6,7 +6,7 @@
 #include <stdlib.h>
 #include <string.h>
 
-enum { CALLS = 100000, GUARD = 4, CELLS = 40, LONGEST = 600 };
+enum { CALLS = 100000, GUARD = 4, CELLS = 40, LONGEST = 600, BEHIND = 12 };
 
 static uint64_t seed, state;
 
@@ -24,15 +24,25 @@ static void fail(const char *what, unsigned long call) {
     exit(1);
 }
 
-/* Random bytes, none zero; or a part of good bytes, cut off and changed in a few places; or nothing. */
+/* Numbers of refusals: 8 and 15 to 20 are none. */
+static int is_refusal(uint64_t n) { return (n >= 1 && n <= 14 && n != 8) || n == VINGARBU_REFUSALS; }
+
+/* Random bytes, none zero; or a part of good bytes, cut off and changed in a few places; or good bytes with records
+ * of kinds 14, 5 and 6 behind them; or nothing. */
 static size_t damage(uint8_t *to, const uint8_t *good, size_t length) {
+    static const uint8_t behind[BEHIND] = {14, 5, 1, 0, 0, 0, 14, 6, 7, 0, 0, 0};
     size_t n = 0;
-    switch (below(6)) {
+    switch (below(7)) {
     case 0: return 0;
     case 1:
         n = below(LONGEST);
         for (size_t i = 0; i < n; i++) to[i] = (uint8_t)(1 + below(255));
         return n;
+    case 2:
+        n = below(7);
+        memcpy(to, good, length);
+        memcpy(to + length, behind + n, BEHIND - n);
+        return length + below(BEHIND - n + 1);
     default:
         memcpy(to, good, length);
         n = below(4) ? length : below(length + 1);
@@ -44,7 +54,7 @@ static size_t damage(uint8_t *to, const uint8_t *good, size_t length) {
 static size_t read_file(const char *name, uint8_t *bytes) {
     FILE *file = fopen(name, "rb");
     if (file == NULL) exit(2);
-    size_t length = fread(bytes, 1, LONGEST, file);
+    size_t length = fread(bytes, 1, LONGEST - BEHIND, file);
     fclose(file);
     return length;
 }
@@ -87,7 +97,7 @@ int main(int argc, char **argv) {
             if (memcmp(space, before, sizeof space) != 0) fail("a cell has changed", call);
             continue;
         }
-        if (results[0] > VINGARBU_REFUSALS) fail("another number", call);
+        if (results[0] != 0 && !is_refusal(results[0])) fail("another number", call);
         numbers[results[0]]++;
         if (results[2] != (results[0] == 0 ? (uint64_t)serial + 1 : serial)) fail("another serial", call);
         if (results[0] != 0 && (results[1] != 0 || results[3] != 0)) fail("a refusal with rows or bytes read", call);
@@ -105,11 +115,11 @@ int main(int argc, char **argv) {
         statuses[status]++;
         room = below(VINGARBU_WORDS + 1);
         memcpy(old, text, LONGEST);
-        uint32_t number = (uint32_t)below(18);
+        uint32_t number = (uint32_t)below(24);
         size_t lent = below(8) != 0;
         printed = VINGARBU_WORDS + 1;
         status = vingarbu_refusal_text(number, text, room, &printed, lent);
-        int refusal = number >= 1 && number <= VINGARBU_REFUSALS;
+        int refusal = is_refusal(number);
         if (lent == 0 ? status != VINGARBU_SHORT : (status == VINGARBU_NOT_FIT) == refusal) fail("another status", call);
         if (status == VINGARBU_DONE ? printed > room || printed == 0 : printed != VINGARBU_WORDS + 1)
             fail("another length of the words", call);
@@ -120,7 +130,8 @@ int main(int argc, char **argv) {
     }
     printf("%d calls, seed %llu: statuses %lu %lu %lu, numbers", CALLS, (unsigned long long)seed, statuses[0], statuses[1],
            statuses[2]);
-    for (unsigned i = 0; i <= VINGARBU_REFUSALS; i++) printf(" %u:%lu", i, numbers[i]);
+    for (unsigned i = 0; i <= VINGARBU_REFUSALS; i++)
+        if (i == 0 || is_refusal(i)) printf(" %u:%lu", i, numbers[i]);
     puts("");
     return 0;
 }

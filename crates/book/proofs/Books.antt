@@ -14,7 +14,7 @@ use Rattle.sets.proofs.Tests.{or-no}
 use Rattle.sets.proofs.Numbers.{eq-or-ne}
 use Rattle.scheme.specs.declared.Scheme.{Scheme}
 use Rattle.scheme.specs.declared.MaximalList.{MaximalList}
-use Rattle.scheme.specs.OfScheme.{maximalOf, unmatchedOf, cyclicOf, maximalListOf}
+use Rattle.scheme.specs.OfScheme.{maximalOf, bothOf, cyclicOf, maximalListOf}
 use Rattle.book.specs.Declaring.{nothingDeclared}
 use Rattle.book.specs.Reading.{Outcome, records, walkedOf, lastNumber, lastFault, afterLast, read, maximalsOf}
 use Rattle.book.specs.Reading.{bookWith, bookOf, stored}
@@ -26,7 +26,7 @@ use Rattle.book.proofs.Outcomes.{records-number, read-over, read-within
 -- ---- a book whose records were all accepted
 
 pub finished-book : (s : Scheme) (rows : ℕ) {m : MaximalList} {n : ℕ} → m ≡ maximalListOf s
-    → n ≡ lastNumber (m .unmatched) (m .cyclic)
+    → n ≡ lastNumber (m .both) (m .cyclic)
     → _≡_ {A = Book} (record { refusal = n; rows = rows; scheme = s; maximal = m .sets; maximals = m .count })
     (bookWith (lastFault s) rows s (maximalOf s))
 unfolding maximalListOf lastFault bookWith
@@ -40,7 +40,7 @@ finished-book s rows e q =
       maximals = x
           .count;
     })
-    (q ∙ ap (λ (x : MaximalList). lastNumber (x .unmatched) (x .cyclic)) e) e
+    (q ∙ ap (λ (x : MaximalList). lastNumber (x .both) (x .cyclic)) e) e
 
 -- ---- the maximal objects by the number
 
@@ -48,17 +48,17 @@ maximals-none : (o : Outcome) → 2 ≤ o .number → o .number ≤ 7 → maxima
 unfolding maximalsOf
 maximals-none o l u =
     ap (λ (t : Bool). elim t [ true ↦ maximalOf (o .scheme) | false ↦ [] ])
-    (or-no (or-no (ne-eqb (o .number) 0 (λ z. omega arith)) (ne-eqb (o .number) 8 (λ z. omega arith)))
+    (or-no (or-no (ne-eqb (o .number) 0 (λ z. omega arith)) (ne-eqb (o .number) 21 (λ z. omega arith)))
     (ne-eqb (o .number) 9 (λ z. omega arith)))
 
 maximals-last : (s : Scheme) (rows : List ℕ)
     → maximalsOf (record { number = lastFault s; scheme = s; rows = rows }) ≡ maximalOf s
 unfolding maximalsOf lastFault lastNumber
 maximals-last s rows =
-    ap (λ (t : Bool). elim t [ true ↦ maximalOf s | false ↦ [] ]) (known (unmatchedOf s) (cyclicOf s))
+    ap (λ (t : Bool). elim t [ true ↦ maximalOf s | false ↦ [] ]) (known (bothOf s) (cyclicOf s))
   where
     known : (u c : Bool)
-        → (eqb (lastNumber u c) 0 || eqb (lastNumber u c) 8 || eqb (lastNumber u c) 9) ≡ true
+        → (eqb (lastNumber u c) 0 || eqb (lastNumber u c) 21 || eqb (lastNumber u c) 9) ≡ true
     known true c = refl
     known false true = refl
     known false false = refl

@@ -20,7 +20,8 @@ use Rattle.sets.proofs.Sets.{yes-has, no-has}
 use Rattle.values.specs.Values.{inRange}
 use Rattle.records.specs.Checks.{First}
 use Rattle.records.specs.declared.Record.{Record}
-use Rattle.records.specs.declared.Record.the-variants.{Attribute, Object, Dependency, Row, Declared, Removed, Item}
+use Rattle.records.specs.declared.Record.the-variants.{Attribute, Object, Dependency, Row, Declared, Removed}
+use Rattle.records.specs.declared.Record.the-variants.{OnlyDeclared, Item}
 use Rattle.records.specs.declared.Record.the-variants.{CompareTwo, CompareConstant, End}
 use Rattle.records.proofs.Checks.{EachNumber, first-number, Same, Agree, ended, next, first-agrees, first-unique}
 use Rattle.records.proofs.Checks.{same-always, same-or}
@@ -143,6 +144,7 @@ agrees s (Dependency left right) =
 agrees s (Row object c0 c1 c2 c3 c4 c5) = row-agrees s object (c0 ∷ c1 ∷ c2 ∷ c3 ∷ c4 ∷ c5 ∷ [])
 agrees s (Declared set) = maximal-agrees s (s .declarations) set
 agrees s (Removed set) = maximal-agrees s (s .removals) set
+agrees s OnlyDeclared = ended
 agrees s (Item variable attribute) = next same-always ended
 agrees s (CompareTwo variable attribute operator variable2 attribute2) = next same-always ended
 agrees s (CompareConstant variable attribute operator cell) = next same-always ended
@@ -170,6 +172,7 @@ between s (Dependency left right) = omega arith
 between s (Row object c0 c1 c2 c3 c4 c5) = omega arith
 between s (Declared set) = omega arith
 between s (Removed set) = omega arith
+between s OnlyDeclared = tt
 between s (Item variable attribute) = omega arith
 between s (CompareTwo variable attribute operator variable2 attribute2) = omega arith
 between s (CompareConstant variable attribute operator cell) = omega arith

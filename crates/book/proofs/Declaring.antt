@@ -12,13 +12,15 @@ use lib.ListN.{getD}
 use types.Run.{OneOf, miss}
 use denote.Enum.Declared.{tagOf}
 use Rattle.records.specs.Checks.{firstOf}
+use Rattle.records.specs.Records.{ofBook}
 use Rattle.records.specs.Walking.{shortNumber}
 use Rattle.records.proofs.Record.{the-type}
 use Rattle.records.proofs.Reading as ReadingType
 use Rattle.records.specs.declared.Reading.{Reading}
 use Rattle.records.specs.declared.Reading.the-variants.{Nothing, Unknown, Short, Found}
 use Rattle.records.specs.declared.Record.{Record}
-use Rattle.records.specs.declared.Record.the-variants.{Attribute, Object, Dependency, Row, Declared, Removed, Item}
+use Rattle.records.specs.declared.Record.the-variants.{Attribute, Object, Dependency, Row, Declared, Removed}
+use Rattle.records.specs.declared.Record.the-variants.{OnlyDeclared, Item}
 use Rattle.records.specs.declared.Record.the-variants.{CompareTwo, CompareConstant, End}
 use Rattle.records.proofs.Checks.{none-first}
 use Rattle.scheme.specs.declared.Scheme.{Scheme}
@@ -26,7 +28,7 @@ use Rattle.scheme.specs.Statements.{SomeObjects}
 use Rattle.sets.specs.Sets.{_∈_, _∉_, has, within, isEmpty, count}
 use Rattle.sets.proofs.Tests.{and-yes, no-or}
 use Rattle.sets.proofs.Sets.{yes-has, no-has, yes-within, no-isEmpty}
-use Rattle.book.specs.Faults.{ofBook, wrongCells, rowChecks, maximalChecks, checks, faultOf}
+use Rattle.book.specs.Faults.{wrongCells, rowChecks, maximalChecks, checks, faultOf}
 use Rattle.book.specs.Declaring.{declare}
 use Rattle.book.specs.Reading.{isRow, stopNumber}
 use Rattle.book.specs.WellFormed.{SomeAttributes}
@@ -145,14 +147,15 @@ row-accepted s object c0 c1 c2 c3 c4 c5 e =
 
 -- ---- the variants that add nothing
 
-pub adds-nothing : (s : Scheme) (r : Record) → OneOf (3 ∷ 6 ∷ 7 ∷ 8 ∷ 9 ∷ []) (tagOf the-type r) → s ≡ declare s r
+pub adds-nothing : (s : Scheme) (r : Record) → OneOf (3 ∷ 7 ∷ 8 ∷ 9 ∷ 10 ∷ []) (tagOf the-type r) → s ≡ declare s r
 unfolding declare
-adds-nothing s (Attribute id kind) h = absurd (miss (3 ∷ 6 ∷ 7 ∷ 8 ∷ 9 ∷ []) 0 tt h)
-adds-nothing s (Object number set) h = absurd (miss (3 ∷ 6 ∷ 7 ∷ 8 ∷ 9 ∷ []) 1 tt h)
-adds-nothing s (Dependency left right) h = absurd (miss (3 ∷ 6 ∷ 7 ∷ 8 ∷ 9 ∷ []) 2 tt h)
+adds-nothing s (Attribute id kind) h = absurd (miss (3 ∷ 7 ∷ 8 ∷ 9 ∷ 10 ∷ []) 0 tt h)
+adds-nothing s (Object number set) h = absurd (miss (3 ∷ 7 ∷ 8 ∷ 9 ∷ 10 ∷ []) 1 tt h)
+adds-nothing s (Dependency left right) h = absurd (miss (3 ∷ 7 ∷ 8 ∷ 9 ∷ 10 ∷ []) 2 tt h)
 adds-nothing s (Row object c0 c1 c2 c3 c4 c5) h = refl
-adds-nothing s (Declared set) h = absurd (miss (3 ∷ 6 ∷ 7 ∷ 8 ∷ 9 ∷ []) 4 tt h)
-adds-nothing s (Removed set) h = absurd (miss (3 ∷ 6 ∷ 7 ∷ 8 ∷ 9 ∷ []) 5 tt h)
+adds-nothing s (Declared set) h = absurd (miss (3 ∷ 7 ∷ 8 ∷ 9 ∷ 10 ∷ []) 4 tt h)
+adds-nothing s (Removed set) h = absurd (miss (3 ∷ 7 ∷ 8 ∷ 9 ∷ 10 ∷ []) 5 tt h)
+adds-nothing s OnlyDeclared h = absurd (miss (3 ∷ 7 ∷ 8 ∷ 9 ∷ 10 ∷ []) 6 tt h)
 adds-nothing s (Item variable attribute) h = refl
 adds-nothing s (CompareTwo variable attribute operator variable2 attribute2) h = refl
 adds-nothing s (CompareConstant variable attribute operator cell) h = refl
@@ -160,14 +163,15 @@ adds-nothing s End h = refl
 
 -- ---- rows
 
-pub not-a-row : (r : Record) → OneOf (0 ∷ 1 ∷ 2 ∷ 4 ∷ 5 ∷ 6 ∷ 7 ∷ 8 ∷ 9 ∷ []) (tagOf the-type r) → false ≡ isRow r
+pub not-a-row : (r : Record) → OneOf (0 ∷ 1 ∷ 2 ∷ 4 ∷ 5 ∷ 6 ∷ 7 ∷ 8 ∷ 9 ∷ 10 ∷ []) (tagOf the-type r) → false ≡ isRow r
 unfolding isRow
 not-a-row (Attribute id kind) h = refl
 not-a-row (Object number set) h = refl
 not-a-row (Dependency left right) h = refl
-not-a-row (Row object c0 c1 c2 c3 c4 c5) h = absurd (miss (0 ∷ 1 ∷ 2 ∷ 4 ∷ 5 ∷ 6 ∷ 7 ∷ 8 ∷ 9 ∷ []) 3 tt h)
+not-a-row (Row object c0 c1 c2 c3 c4 c5) h = absurd (miss (0 ∷ 1 ∷ 2 ∷ 4 ∷ 5 ∷ 6 ∷ 7 ∷ 8 ∷ 9 ∷ 10 ∷ []) 3 tt h)
 not-a-row (Declared set) h = refl
 not-a-row (Removed set) h = refl
+not-a-row OnlyDeclared h = refl
 not-a-row (Item variable attribute) h = refl
 not-a-row (CompareTwo variable attribute operator variable2 attribute2) h = refl
 not-a-row (CompareConstant variable attribute operator cell) h = refl
@@ -175,14 +179,15 @@ not-a-row End h = refl
 
 -- ---- the kinds of a query
 
-pub not-of-a-book : (s : Scheme) (r : Record) → OneOf (6 ∷ 7 ∷ 8 ∷ 9 ∷ []) (tagOf the-type r) → 2 ≡ faultOf s r
+pub not-of-a-book : (s : Scheme) (r : Record) → OneOf (7 ∷ 8 ∷ 9 ∷ 10 ∷ []) (tagOf the-type r) → 2 ≡ faultOf s r
 unfolding faultOf checks firstOf
-not-of-a-book s (Attribute id kind) h = absurd (miss (6 ∷ 7 ∷ 8 ∷ 9 ∷ []) 0 tt h)
-not-of-a-book s (Object number set) h = absurd (miss (6 ∷ 7 ∷ 8 ∷ 9 ∷ []) 1 tt h)
-not-of-a-book s (Dependency left right) h = absurd (miss (6 ∷ 7 ∷ 8 ∷ 9 ∷ []) 2 tt h)
-not-of-a-book s (Row object c0 c1 c2 c3 c4 c5) h = absurd (miss (6 ∷ 7 ∷ 8 ∷ 9 ∷ []) 3 tt h)
-not-of-a-book s (Declared set) h = absurd (miss (6 ∷ 7 ∷ 8 ∷ 9 ∷ []) 4 tt h)
-not-of-a-book s (Removed set) h = absurd (miss (6 ∷ 7 ∷ 8 ∷ 9 ∷ []) 5 tt h)
+not-of-a-book s (Attribute id kind) h = absurd (miss (7 ∷ 8 ∷ 9 ∷ 10 ∷ []) 0 tt h)
+not-of-a-book s (Object number set) h = absurd (miss (7 ∷ 8 ∷ 9 ∷ 10 ∷ []) 1 tt h)
+not-of-a-book s (Dependency left right) h = absurd (miss (7 ∷ 8 ∷ 9 ∷ 10 ∷ []) 2 tt h)
+not-of-a-book s (Row object c0 c1 c2 c3 c4 c5) h = absurd (miss (7 ∷ 8 ∷ 9 ∷ 10 ∷ []) 3 tt h)
+not-of-a-book s (Declared set) h = absurd (miss (7 ∷ 8 ∷ 9 ∷ 10 ∷ []) 4 tt h)
+not-of-a-book s (Removed set) h = absurd (miss (7 ∷ 8 ∷ 9 ∷ 10 ∷ []) 5 tt h)
+not-of-a-book s OnlyDeclared h = absurd (miss (7 ∷ 8 ∷ 9 ∷ 10 ∷ []) 6 tt h)
 not-of-a-book s (Item variable attribute) h = refl
 not-of-a-book s (CompareTwo variable attribute operator variable2 attribute2) h = refl
 not-of-a-book s (CompareConstant variable attribute operator cell) h = refl
@@ -190,18 +195,13 @@ not-of-a-book s End h = refl
 
 -- ---- bodies cut short
 
-pub short-yes : (k : ℕ) → 1 ≤ k → k ≤ 6 → 3 ≡ shortNumber ofBook k
-unfolding shortNumber ofBook
-short-yes k h l = ap (λ (b : Bool). elim b [ true ↦ 3 | false ↦ 2 ]) (sym (and-yes (le-leb 1 k h) (le-leb k 6 l)))
+pub short-yes : (k : ℕ) → ofBook k ≡ true → 3 ≡ shortNumber ofBook k
+unfolding shortNumber
+short-yes k y = ap (λ (b : Bool). elim b [ true ↦ 3 | false ↦ 2 ]) (sym y)
 
-pub short-low : (k : ℕ) → k < 1 → 2 ≡ shortNumber ofBook k
-unfolding shortNumber ofBook
-short-low k h = ap (λ (b : Bool). elim (b && leb k 6) [ true ↦ 3 | false ↦ 2 ]) (sym (lt-leb 1 k h))
-
-pub short-high : (k : ℕ) → 1 ≤ k → 6 < k → 2 ≡ shortNumber ofBook k
-unfolding shortNumber ofBook
-short-high k h l =
-    ap₂ (λ (b c : Bool). elim (b && c) [ true ↦ 3 | false ↦ 2 ]) (sym (le-leb 1 k h)) (sym (lt-leb k 6 l))
+pub short-no : (k : ℕ) → ofBook k ≡ false → 2 ≡ shortNumber ofBook k
+unfolding shortNumber
+short-no k n = ap (λ (b : Bool). elim b [ true ↦ 3 | false ↦ 2 ]) (sym n)
 
 -- ---- where no whole record stands
 

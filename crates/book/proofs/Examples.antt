@@ -10,22 +10,24 @@ use Rattle.values.specs.Values.{inRange}
 use Rattle.reduction.specs.Kept.{union, around, someHolds, removable, stays, staying, settle, left, acyclic, goesFor}
 use Rattle.reduction.specs.Kept.{goes, keeps, keptOf}
 use Rattle.records.specs.Fields.{bytes, value, field}
-use Rattle.records.specs.Records.{isKind, bodyLengths, bodyLength, kindOf, bytesOf, bytesOfAll}
+use Rattle.records.specs.Records.{kinds, whose, isKind, ofBook, bodyLength, kindOf, bytesOf, bytesOfAll}
 use Rattle.records.specs.Reader.{bodies, recordOf, readFront, readAt}
 use Rattle.records.specs.Checks.{firstOf}
 use Rattle.records.specs.Walking.{shortNumber, walkFrom, walk}
 use Rattle.records.specs.declared.Record.{Record}
-use Rattle.records.specs.declared.Record.the-variants.{Attribute, Object, Dependency, Row, Declared, Removed, Item}
+use Rattle.records.specs.declared.Record.the-variants.{Attribute, Object, Dependency, Row, Declared, Removed}
+use Rattle.records.specs.declared.Record.the-variants.{OnlyDeclared, Item}
 use Rattle.relation.specs.Tables.{cellOf, Table}
 use Rattle.scheme.specs.declared.Scheme.{Scheme}
 use Rattle.scheme.specs.Dependencies.{pass, passes, closure}
 use Rattle.scheme.specs.Growing.{familyOf, attributesOf, joins, holding, rounds, grown}
-use Rattle.scheme.specs.MaximalObjects.{computed, isOne, removing, adding, maximalObjects, someUnmatched, someCyclic}
-use Rattle.scheme.specs.OfScheme.{pairs, computedOf, maximalOf, unmatchedOf, cyclicOf}
-use Rattle.book.specs.Faults.{ofBook, someNonZero, someOutside, wrongCells, rowChecks, maximalChecks}
+use Rattle.scheme.specs.MaximalObjects.{computed, isOne, removing, adding, counted}
+use Rattle.scheme.specs.MaximalObjects.{maximalObjects, bothKinds, someCyclic}
+use Rattle.scheme.specs.OfScheme.{pairs, computedOf, maximalOf, bothOf, cyclicOf}
+use Rattle.book.specs.Faults.{someNonZero, someOutside, wrongCells, rowChecks, maximalChecks}
 use Rattle.book.specs.Faults.{checks, faultOf}
 use Rattle.book.specs.Declaring.{nothingDeclared, withAttribute, withObject, withDependency, withDeclared}
-use Rattle.book.specs.Declaring.{withRemoved, declare}
+use Rattle.book.specs.Declaring.{withRemoved, withOnly, declare}
 use Rattle.book.specs.Reading.{Outcome, isRow, withRow, records, lastFault, afterLast}
 use Rattle.book.specs.Reading.{lastNumber, read, maximalsOf}
 use Rattle.book.specs.TablesOf.{cellsOf, rowOf, rowsOf, tablesOf}
@@ -88,7 +90,12 @@ trials =
     ∷ record { gives = result []; says = 0 ∷ 0 ∷ [] }  -- "A file that can't be opened counts as an empty book."
     ∷ record { gives = book ring; says = 9 ∷ 0 ∷ 7 ∷ [] }  -- "Objects AB, BC, CA with A to B and B to C: 9"
     ∷ record { gives = book (ring ++ Object 3 7 ∷ []); says = 0 ∷ 0 ∷ 15 ∷ [] }  -- "With object ABC also: accepted."
-    ∷ record { gives = book (ring ++ Removed 1 ∷ []); says = 8 ∷ 0 ∷ 7 ∷ [] }  -- 8 comes before 9
+    ∷ record { gives = book (ring ++ Removed 1 ∷ []); says = 9 ∷ 0 ∷ 7 ∷ [] }  -- it matches nothing: no effect
+    ∷ record { gives = book (ring ++ Removed 7 ∷ []); says = 0 ∷ 0 ∷ [] }  -- it matches: none is left
+    ∷ record { gives = book (ring ++ OnlyDeclared ∷ []); says = 0 ∷ 0 ∷ [] }  -- "only declared maximal objects count"
+    ∷ record { gives = book (ring ++ OnlyDeclared ∷ Declared 3 ∷ OnlyDeclared ∷ []); says = 0 ∷ 0 ∷ 3 ∷ [] }
+    ∷ record { gives = book (ring ++ Declared 7 ∷ OnlyDeclared ∷ Removed 1 ∷ []); says = 21 ∷ 0 ∷ 7 ∷ [] }  -- 21, not 9
+    ∷ record { gives = book (ring ++ Removed 7 ∷ OnlyDeclared ∷ Item 0 0 ∷ []); says = 2 ∷ 0 ∷ [] }  -- a record first
     ∷ record { gives = book (Item 0 0 ∷ []); says = 2 ∷ 0 ∷ [] }  -- a kind of a query
     ∷ record { gives = result (1 ∷ 0 ∷ []); says = 3 ∷ 0 ∷ [] }  -- a body cut short
     ∷ record { gives = result (8 ∷ 0 ∷ []); says = 2 ∷ 0 ∷ [] }  -- a kind of a query cut short
@@ -102,12 +109,12 @@ trials =
 
 pub trials-hold : map (λ t. t .gives) trials ≡ map (λ t. t .says) trials
 unfolding trials survey ring angles eight result read afterLast lastFault lastNumber records walk walkFrom shortNumber
-    withRow isRow maximalsOf declare withRemoved withDeclared withDependency withObject withAttribute nothingDeclared
-    faultOf checks maximalChecks rowChecks wrongCells someOutside someNonZero firstOf ofBook cyclicOf unmatchedOf
-    maximalOf computedOf pairs someCyclic someUnmatched maximalObjects adding removing isOne computed grown rounds
-    holding joins attributesOf familyOf closure passes pass cellOf readAt readFront recordOf bodies bytesOfAll bytesOf
-    kindOf bodyLength bodyLengths isKind field value bytes keptOf keeps goes goesFor acyclic left settle staying stays
-    removable someHolds around union inRange members rank isEmpty single _∖_ _∪_ _∩_ within has bit
+    withRow isRow maximalsOf declare withOnly withRemoved withDeclared withDependency withObject withAttribute
+    nothingDeclared faultOf checks maximalChecks rowChecks wrongCells someOutside someNonZero firstOf ofBook cyclicOf
+    bothOf maximalOf computedOf pairs someCyclic counted bothKinds maximalObjects adding removing isOne computed grown
+    rounds holding joins attributesOf familyOf closure passes pass cellOf readAt readFront recordOf bodies bytesOfAll
+    bytesOf kindOf bodyLength isKind whose kinds field value bytes keptOf keeps goes goesFor acyclic left settle
+    staying stays removable someHolds around union inRange members rank isEmpty single _∖_ _∪_ _∩_ within has bit
 trials-hold = refl
 
 -- ---- what books declare: value kinds, the sets of objects, both sides of the dependencies, kind 5 and kind 6 sets,
@@ -164,11 +171,11 @@ layouts =
 
 pub layouts-hold : map (λ l. l .gives) layouts ≡ map (λ l. l .says) layouts
 unfolding layouts declares tables flatMap tablesOf rowsOf rowOf cellsOf survey mixed read afterLast lastFault lastNumber
-    records walk walkFrom shortNumber withRow isRow declare withRemoved withDeclared withDependency withObject
+    records walk walkFrom shortNumber withRow isRow declare withOnly withRemoved withDeclared withDependency withObject
     withAttribute nothingDeclared faultOf checks maximalChecks rowChecks wrongCells someOutside someNonZero firstOf
-    ofBook cyclicOf unmatchedOf maximalOf computedOf pairs someCyclic someUnmatched maximalObjects adding removing isOne
+    ofBook cyclicOf bothOf maximalOf computedOf pairs someCyclic counted bothKinds maximalObjects adding removing isOne
     computed grown rounds holding joins attributesOf familyOf closure passes pass cellOf readAt readFront recordOf
-    bodies bytesOfAll bytesOf kindOf bodyLength bodyLengths isKind field value bytes keptOf keeps goes goesFor acyclic
+    bodies bytesOfAll bytesOf kindOf bodyLength isKind whose kinds field value bytes keptOf keeps goes goesFor acyclic
     left settle staying stays removable someHolds around union inRange members rank isEmpty single _∖_ _∪_ _∩_ within
     has bit
 layouts-hold = refl

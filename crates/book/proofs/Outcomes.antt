@@ -8,26 +8,27 @@ use mathlib.Core.Logic.{_⊎_, inl, inr, ⊎-elim}
 use mathlib.Core.List.{List, []}
 use Prim.Native.Nat.{ℕ, _≤_, _<_}
 use native.Mathlib.Omega.{arith}
-use borrow.Author.Tests.{leb-false, le-leb, lt-leb, eq-eqb, ne-eqb, lt-ltb, le-ltb}
-use lib.Dec.{leb}
+use borrow.Author.Tests.{eqb-true, not-false, eq-eqb, ne-eqb, lt-ltb, le-ltb}
+use lib.Dec.{eqb}
 use lib.ListN.{length}
 use Rattle.sets.proofs.Tests.{yes-no, no-and}
 use Rattle.sets.proofs.Numbers.{lt-or-le}
 use Rattle.records.specs.Checks.{firstOf}
-use Rattle.records.specs.Records.{isKind, kindOf}
+use Rattle.records.specs.Records.{kinds, whose, isKind, ofBook, kindOf}
 use Rattle.records.specs.Walking as Walking
 use Rattle.records.specs.Walking.{Sound, Stop, notAllowed, cutShort, wrong, StopsAt}
 use Rattle.records.specs.declared.Record.{Record}
-use Rattle.records.specs.declared.Record.the-variants.{Attribute, Object, Dependency, Row, Declared, Removed, Item}
+use Rattle.records.specs.declared.Record.the-variants.{Attribute, Object, Dependency, Row, Declared, Removed}
+use Rattle.records.specs.declared.Record.the-variants.{OnlyDeclared, Item}
 use Rattle.records.specs.declared.Record.the-variants.{CompareTwo, CompareConstant, End}
 use Rattle.records.proofs.Walking.{walk-stops, stops-walk}
 use Rattle.scheme.specs.declared.Scheme.{Scheme}
-use Rattle.scheme.specs.OfScheme.{unmatchedOf, cyclicOf}
-use Rattle.book.specs.Faults.{ofBook, checks, faultOf}
+use Rattle.scheme.specs.OfScheme.{bothOf, cyclicOf}
+use Rattle.book.specs.Faults.{checks, faultOf}
 use Rattle.book.specs.Declaring.{nothingDeclared}
 use Rattle.book.specs.Reading.{Outcome, Held, nothingHeld, bookRules, outcomeOf, records, lastNumber, lastFault}
 use Rattle.book.specs.Reading.{afterLast, read}
-use Rattle.book.specs.Accepting.{Faulty, AtLast, unmatched, cyclic, good, Stops, faulty, atEnd}
+use Rattle.book.specs.Accepting.{Faulty, AtLast, both, cyclic, good, Stops, faulty, atEnd}
 use Rattle.book.specs.Statements.{StopsWith, FaultyRecord, AcceptedWhole}
 use Rattle.book.proofs.Conditions.{fault-between}
 
@@ -35,22 +36,18 @@ use Rattle.book.proofs.Conditions.{fault-between}
 
 no-kind-no-book : (k : ℕ) → isKind k ≡ false → ofBook k ≡ false
 unfolding isKind ofBook
-no-kind-no-book k e =
-    ⊎-elim (λ n. ap (λ (b : Bool). b && leb k 6) n)
-    (λ n. high (leb-false k 10 n)) (no-and (leb 1 k) (leb k 10) e)
-  where
-    high : 10 < k → (leb 1 k && leb k 6) ≡ false
-    high h = ap (λ (b : Bool). b && leb k 6) (le-leb 1 k (omega arith)) ∙ lt-leb k 6 (omega arith)
+no-kind-no-book k e = ap (λ (w : ℕ). eqb w 1) (eqb-true (whose k) 0 (not-false (eqb (whose k) 0) e))
 
 -- a record of another kind has the fault 2
 fault-not-of-book : (s : Scheme) (r : Record) → ofBook (kindOf r) ≡ false → faultOf s r ≡ 2
-unfolding kindOf ofBook faultOf checks firstOf
+unfolding kindOf ofBook whose kinds faultOf checks firstOf
 fault-not-of-book s (Attribute id kind) e = absurd (yes-no refl e)
 fault-not-of-book s (Object number set) e = absurd (yes-no refl e)
 fault-not-of-book s (Dependency left right) e = absurd (yes-no refl e)
 fault-not-of-book s (Row object c0 c1 c2 c3 c4 c5) e = absurd (yes-no refl e)
 fault-not-of-book s (Declared set) e = absurd (yes-no refl e)
 fault-not-of-book s (Removed set) e = absurd (yes-no refl e)
+fault-not-of-book s OnlyDeclared e = absurd (yes-no refl e)
 fault-not-of-book s (Item variable attribute) e = refl
 fault-not-of-book s (CompareTwo variable attribute operator variable2 attribute2) e = refl
 fault-not-of-book s (CompareConstant variable attribute operator cell) e = refl
@@ -82,16 +79,16 @@ records-number b = walk-number (walk-stops bookRules bookSound b nothingHeld)
 
 at-last : (s : Scheme) → AtLast s (lastFault s)
 unfolding lastFault lastNumber
-at-last s = choose (unmatchedOf s) refl (cyclicOf s) refl
+at-last s = choose (bothOf s) refl (cyclicOf s) refl
   where
-    choose : (u : Bool) → unmatchedOf s ≡ u → (c : Bool) → cyclicOf s ≡ c → AtLast s (lastNumber u c)
-    choose true p c q = unmatched p
+    choose : (u : Bool) → bothOf s ≡ u → (c : Bool) → cyclicOf s ≡ c → AtLast s (lastNumber u c)
+    choose true p c q = both p
     choose false p true q = cyclic p q
     choose false p false q = good p q
 
 at-last-is : {s : Scheme} {n : ℕ} → AtLast s n → lastFault s ≡ n
 unfolding lastFault lastNumber
-at-last-is {s} (unmatched p) = ap (λ (u : Bool). lastNumber u (cyclicOf s)) p
+at-last-is {s} (both p) = ap (λ (u : Bool). lastNumber u (cyclicOf s)) p
 at-last-is (cyclic p q) = ap₂ lastNumber p q
 at-last-is (good p q) = ap₂ lastNumber p q
 
@@ -177,19 +174,24 @@ stops-read b o h w = read-within b h ∙ by (w .stops)
 
 -- ---- its number
 
-at-last-number : {s : Scheme} {n : ℕ} → AtLast s n → (n ≡ 0) ⊎ (8 ≤ n) × (n ≤ 9)
-at-last-number (unmatched p) = inr (omega arith)
-at-last-number (cyclic p q) = inr (omega arith)
+at-last-number : {s : Scheme} {n : ℕ} → AtLast s n → (n ≡ 0) ⊎ (n ≡ 9) ⊎ (n ≡ 21)
+at-last-number (both p) = inr (inr refl)
+at-last-number (cyclic p q) = inr (inl refl)
 at-last-number (good p q) = inl refl
 
-pub number-at-most : (b : List ℕ) → read b .number ≤ 9
-number-at-most b =
-    ⊎-elim (λ h. omega (arith, ap (λ (o : Outcome). o .number) (read-over b h))) (λ h. within (read-stops b h .stops))
-    (lt-or-le 65536 (length b))
+-- after the last record: 0, or more than the faults of records
+at-last-high : {s : Scheme} {n : ℕ} → AtLast s n → (n ≡ 0) ⊎ (9 ≤ n)
+at-last-high t = ⊎-elim inl (λ p. inr (⊎-elim (λ e. omega arith) (λ e. omega arith) p)) (at-last-number t)
+
+pub number-one-of : (b : List ℕ) → (read b .number ≤ 7) ⊎ ((read b .number ≡ 9) ⊎ (read b .number ≡ 21))
+number-one-of b =
+    ⊎-elim (λ h. inl (omega (arith, ap (λ (o : Outcome). o .number) (read-over b h))))
+    (λ h. within (read-stops b h .stops)) (lt-or-le 65536 (length b))
   where
-    within : {at : ℕ} → Stops b (read b .scheme) at (read b .number) → read b .number ≤ 9
-    within (faulty f) = omega (arith, faulty-between (read b .scheme) f)
-    within (atEnd l t) = ⊎-elim (λ z. omega arith) (λ p. omega arith) (at-last-number t)
+    within : {at : ℕ} → Stops b (read b .scheme) at (read b .number)
+        → (read b .number ≤ 7) ⊎ ((read b .number ≡ 9) ⊎ (read b .number ≡ 21))
+    within (faulty f) = inl (faulty-between (read b .scheme) f .1)
+    within (atEnd l t) = ⊎-elim (λ z. inl (omega arith)) inr (at-last-number t)
 
 pub number-over : (b : List ℕ) → 65536 < length b → read b .number ≡ 1
 number-over b h = ap (λ (o : Outcome). o .number) (read-over b h)
@@ -199,7 +201,7 @@ number-not-one b h e = within (read-stops b h .stops)
   where
     within : {at : ℕ} → Stops b (read b .scheme) at (read b .number) → ⊥
     within (faulty f) = absurd (omega (arith, faulty-between (read b .scheme) f))
-    within (atEnd l t) = ⊎-elim (λ z. absurd (omega arith)) (λ p. absurd (omega arith)) (at-last-number t)
+    within (atEnd l t) = ⊎-elim (λ z. absurd (omega arith)) (λ p. absurd (omega arith)) (at-last-high t)
 
 -- a number other than 1 comes from a book that is not too long
 pub number-within : (b : List ℕ) → (read b .number ≡ 1 → ⊥) → length b ≤ 65536
@@ -220,7 +222,7 @@ number-faulty b n l u h e = within (read-stops b h)
           accepted = w .accepted;
           faulty = subst (Faulty b (read b .scheme) (w .at)) e f;
         }
-        by (atEnd x t) = ⊎-elim (λ z. absurd (omega arith)) (λ p. absurd (omega arith)) (at-last-number t)
+        by (atEnd x t) = ⊎-elim (λ z. absurd (omega arith)) (λ p. absurd (omega arith)) (at-last-high t)
 
 pub faulty-number : (b : List ℕ) (n : ℕ) → length b ≤ 65536 → FaultyRecord b n → read b .number ≡ n
 faulty-number b n h f =

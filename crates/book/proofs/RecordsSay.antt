@@ -3,8 +3,8 @@
 -- In order: one record more, records of other kinds, the scheme, the rows, the tables, the row of a record in bytes.
 -- Assumes nothing.
 use mathlib.Core.Path.{_≡_, refl, sym, ap, _∙_, subst}
-use mathlib.Core.Bool.{Bool, true, false}
-use mathlib.Core.Logic.{_⊎_, inl, inr, ⊎-elim}
+use mathlib.Core.Bool.{Bool, true, false, false≢true}
+use mathlib.Core.Logic.{_⊎_, inl, inr, ⊎-elim, _↔_}
 use mathlib.Core.List.{List, [], _∷_, _++_, map, append-nil, append-assoc, List·Memᴰ, List·Memᴰ·head, List·Memᴰ·not-nil}
 use mathlib.Core.List.{List·Memᴰ·append-cases, List·Memᴰ·eq-of-singleton, Memᴰ·append-left, Memᴰ·append-right}
 use Prim.Native.Nat.{ℕ, zero, suc, _+_, _≤_, _<_}
@@ -21,11 +21,12 @@ use Rattle.sets.proofs.Ranks.{rank-lt}
 use Rattle.sets.proofs.Members.{length-members, getD-members}
 use Rattle.sets.proofs.Sets.{∪-cases, ∪-left, in-single, insert-in, zero-out}
 use Rattle.records.specs.Fields.{field}
-use Rattle.records.specs.Records.{bodyLengths, bodyLength, kindOf, bytesOf, bytesOfAll}
+use Rattle.records.specs.Records.{kinds, bodyLength, kindOf, bytesOf, bytesOfAll}
 use Rattle.records.specs.Reader.{bodies, recordOf, readAt, Reads, done, more}
 use Rattle.records.specs.Walking.{none, one}
 use Rattle.records.specs.declared.Record.{Record}
-use Rattle.records.specs.declared.Record.the-variants.{Attribute, Object, Dependency, Row, Declared, Removed, Item}
+use Rattle.records.specs.declared.Record.the-variants.{Attribute, Object, Dependency, Row, Declared, Removed}
+use Rattle.records.specs.declared.Record.the-variants.{OnlyDeclared, Item}
 use Rattle.records.specs.declared.Record.the-variants.{CompareTwo, CompareConstant, End}
 use Rattle.records.specs.declared.Reading.the-variants.{Found}
 use Rattle.records.proofs.Fields.{field-drop}
@@ -38,7 +39,7 @@ use Rattle.scheme.specs.OfScheme.{pairs, dependenciesOf, declaredOf, removedOf}
 use Rattle.book.specs.Faults.{faultOf}
 use Rattle.book.specs.Declaring.{nothingDeclared, declare, withAttribute, withObject, withDependency}
 use Rattle.book.specs.Declaring.{withDeclared}
-use Rattle.book.specs.Declaring.{withRemoved}
+use Rattle.book.specs.Declaring.{withRemoved, withOnly}
 use Rattle.book.specs.Reading.{Outcome, Held, isRow, withRow}
 use Rattle.book.specs.Accepting.{AcceptedAs}
 use Rattle.book.specs.WellFormed.{WellFormed}
@@ -143,6 +144,10 @@ module _ (r : Record) where
   unfolding kindOf
   no-removed n M e = n (ap kindOf e)
 
+  no-only : (kindOf r ≡ 14 → ⊥) → OnlyDeclared ≡ r → ⊥
+  unfolding kindOf
+  no-only n e = n (ap kindOf (sym e))
+
   no-row : (kindOf r ≡ 4 → ⊥) → (k : ℕ) (cells : Tables.Row) → SaysRow k r cells → ⊥
   unfolding kindOf
   no-row n k cells w = n (ap kindOf (w .isRow))
@@ -163,6 +168,7 @@ nothing-said = record {
   dependencies = ended;
   declared = ended;
   removed = ended;
+  only = (λ y. absurd (false≢true y), λ m. absurd (List·Memᴰ·not-nil m));
   leftBehind = λ i h. getD-zeros 64 i;
   rightBehind = λ i h. getD-zeros 64 i;
   declaredBehind = λ i h. getD-zeros 8 i;
@@ -186,14 +192,22 @@ module _ (r : Record) {rs : List Record} {s : Scheme} (v : SchemeSaid rs s) wher
   same-removed : (kindOf r ≡ 6 → ⊥) → Gathered SaysRemoved (rs ++ r ∷ []) (removedOf s)
   same-removed n = gathered-same SaysRemoved r (no-removed r n) (v .removed)
 
-  -- a record of another kind than 1, 2, 3, 5 and 6 leaves the scheme as it is
-  says-nothing : (kindOf r ≡ 4) ⊎ (7 ≤ kindOf r) → SchemeSaid (rs ++ r ∷ []) s
+  same-only : (kindOf r ≡ 14 → ⊥) → (s .only ≡ true) ↔ List·Memᴰ OnlyDeclared (rs ++ r ∷ [])
+  same-only n = (
+    λ y. Memᴰ·append-left (r ∷ []) (v .only .0 y),
+    λ m. v .only .1
+        (⊎-elim (λ p. p) (λ p. absurd (no-only r n (List·Memᴰ·eq-of-singleton p))) (List·Memᴰ·append-cases rs m)),
+  )
+
+  -- a record of another kind than 1, 2, 3, 5, 6 and 14 leaves the scheme as it is
+  says-nothing : (kindOf r ≡ 4) ⊎ (7 ≤ kindOf r) × (kindOf r ≤ 10) → SchemeSaid (rs ++ r ∷ []) s
   says-nothing late = record {
     attributes = same-attributes (λ e. ⊎-elim (λ z. omega arith) (λ z. omega arith) late);
     objects = same-objects (λ e. ⊎-elim (λ z. omega arith) (λ z. omega arith) late);
     dependencies = same-dependencies (λ e. ⊎-elim (λ z. omega arith) (λ z. omega arith) late);
     declared = same-declared (λ e. ⊎-elim (λ z. omega arith) (λ z. omega arith) late);
     removed = same-removed (λ e. ⊎-elim (λ z. omega arith) (λ z. omega arith) late);
+    only = same-only (λ e. ⊎-elim (λ z. omega arith) (λ z. omega arith) late);
     leftBehind = v .leftBehind;
     rightBehind = v .rightBehind;
     declaredBehind = v .declaredBehind;
@@ -213,6 +227,7 @@ module _ {rs : List Record} {s : Scheme} (w : WellFormed s) (v : SchemeSaid rs s
         dependencies = same-dependencies r v (λ e. omega arith);
         declared = same-declared r v (λ e. omega arith);
         removed = same-removed r v (λ e. omega arith);
+        only = same-only r v (λ e. omega arith);
         leftBehind = v .leftBehind;
         rightBehind = v .rightBehind;
         declaredBehind = v .declaredBehind;
@@ -232,6 +247,7 @@ module _ {rs : List Record} {s : Scheme} (w : WellFormed s) (v : SchemeSaid rs s
         dependencies = same-dependencies r v (λ e. omega arith);
         declared = same-declared r v (λ e. omega arith);
         removed = same-removed r v (λ e. omega arith);
+        only = same-only r v (λ e. omega arith);
         leftBehind = v .leftBehind;
         rightBehind = v .rightBehind;
         declaredBehind = v .declaredBehind;
@@ -253,6 +269,7 @@ module _ {rs : List Record} {s : Scheme} (w : WellFormed s) (v : SchemeSaid rs s
             (gathered-more SaysDependency r (record { left = left; right = right }) refl (v .dependencies));
         declared = same-declared r v (λ e. omega arith);
         removed = same-removed r v (λ e. omega arith);
+        only = same-only r v (λ e. omega arith);
         leftBehind = zero-from-set (s .dependencies) (s .left) left (v .leftBehind);
         rightBehind = zero-from-set (s .dependencies) (s .right) right (v .rightBehind);
         declaredBehind = v .declaredBehind;
@@ -272,6 +289,7 @@ module _ {rs : List Record} {s : Scheme} (w : WellFormed s) (v : SchemeSaid rs s
             (sym (take-more (s .declared) (s .declarations) M (omega (arith, n .room, w .arrays .declared))))
             (gathered-more SaysDeclared r M refl (v .declared));
         removed = same-removed r v (λ e. omega arith);
+        only = same-only r v (λ e. omega arith);
         leftBehind = v .leftBehind;
         rightBehind = v .rightBehind;
         declaredBehind = zero-from-set (s .declarations) (s .declared) M (v .declaredBehind);
@@ -291,10 +309,28 @@ module _ {rs : List Record} {s : Scheme} (w : WellFormed s) (v : SchemeSaid rs s
             subst (Gathered SaysRemoved (rs ++ r ∷ []))
             (sym (take-more (s .removed) (s .removals) M (omega (arith, n .room, w .arrays .removed))))
             (gathered-more SaysRemoved r M refl (v .removed));
+        only = same-only r v (λ e. omega arith);
         leftBehind = v .leftBehind;
         rightBehind = v .rightBehind;
         declaredBehind = v .declaredBehind;
         removedBehind = zero-from-set (s .removals) (s .removed) M (v .removedBehind);
+      }
+
+  only-said : SchemeSaid (rs ++ OnlyDeclared ∷ []) (withOnly s)
+  unfolding withOnly kindOf
+  only-said =
+      let r = OnlyDeclared in
+      record {
+        attributes = same-attributes r v (λ e. omega arith);
+        objects = same-objects r v (λ e. omega arith);
+        dependencies = same-dependencies r v (λ e. omega arith);
+        declared = same-declared r v (λ e. omega arith);
+        removed = same-removed r v (λ e. omega arith);
+        only = (λ y. Memᴰ·append-right rs (List·Memᴰ·head refl), λ m. refl);
+        leftBehind = v .leftBehind;
+        rightBehind = v .rightBehind;
+        declaredBehind = v .declaredBehind;
+        removedBehind = v .removedBehind;
       }
 
   declare-said : (r : Record) → faultOf s r ≡ 0 → SchemeSaid (rs ++ r ∷ []) (declare s r)
@@ -305,6 +341,7 @@ module _ {rs : List Record} {s : Scheme} (w : WellFormed s) (v : SchemeSaid rs s
   declare-said (Row object c0 c1 c2 c3 c4 c5) f = says-nothing (Row object c0 c1 c2 c3 c4 c5) v (inl refl)
   declare-said (Declared set) f = declared-said set (declared-accepted s set f)
   declare-said (Removed set) f = removed-said set (removed-accepted s set f)
+  declare-said OnlyDeclared f = only-said
   declare-said (Item variable attribute) f = says-nothing (Item variable attribute) v (inr (omega arith))
   declare-said (CompareTwo variable attribute operator variable2 attribute2) f =
       says-nothing (CompareTwo variable attribute operator variable2 attribute2) v (inr (omega arith))
@@ -447,6 +484,7 @@ module _ {b : List ℕ} {rs : List Record} {rows : List ℕ} {at next : ℕ} (v 
   more-said (Row object c0 c1 c2 c3 c4 c5) e = row-said object c0 c1 c2 c3 c4 c5 e
   more-said (Declared set) e = no-row-said (Declared set) (λ z. omega arith) e
   more-said (Removed set) e = no-row-said (Removed set) (λ z. omega arith) e
+  more-said OnlyDeclared e = no-row-said OnlyDeclared (λ z. omega arith) e
   more-said (Item variable attribute) e = no-row-said (Item variable attribute) (λ z. omega arith) e
   more-said (CompareTwo variable attribute operator variable2 attribute2) e =
       no-row-said (CompareTwo variable attribute operator variable2 attribute2) (λ z. omega arith) e
@@ -491,7 +529,7 @@ module _ (b : List ℕ) (at : ℕ) {next k : ℕ} {r : Record} {cells : Tables.R
   kind-four = ap kindOf (w .isRow)
 
   pub row-whole : at + 26 ≤ length b
-  unfolding bodyLength bodyLengths
+  unfolding bodyLength kinds
   row-whole =
       let v = whole-readAt b at e in
       omega (arith, v .place, v .within, ap bodyLength kind-four)

@@ -19,7 +19,8 @@ use Rattle.values.specs.Values.{inRange}
 use Rattle.records.specs.Reader.{readAt}
 use Rattle.records.specs.Walking.{none, one}
 use Rattle.records.specs.declared.Record.{Record}
-use Rattle.records.specs.declared.Record.the-variants.{Attribute, Object, Dependency, Row, Declared, Removed, Item}
+use Rattle.records.specs.declared.Record.the-variants.{Attribute, Object, Dependency, Row, Declared, Removed}
+use Rattle.records.specs.declared.Record.the-variants.{OnlyDeclared, Item}
 use Rattle.records.specs.declared.Record.the-variants.{CompareTwo, CompareConstant, End}
 use Rattle.records.specs.declared.Reading.the-variants.{Found}
 use Rattle.relation.specs.Tables as Tables
@@ -27,7 +28,8 @@ use Rattle.relation.specs.Tables.{Table, cellOf, family}
 use Rattle.scheme.specs.declared.Scheme.{Scheme}
 use Rattle.scheme.specs.Growing.{familyOf}
 use Rattle.book.specs.Faults.{someNonZero, someOutside, wrongCells, faultOf}
-use Rattle.book.specs.Declaring.{declare, withAttribute, withObject, withDependency, withDeclared, withRemoved}
+use Rattle.book.specs.Declaring.{declare, withAttribute, withObject, withDependency, withDeclared}
+use Rattle.book.specs.Declaring.{withRemoved, withOnly}
 use Rattle.book.specs.Reading.{Outcome, Held, isRow, withRow}
 use Rattle.book.specs.Accepting.{Accepted, AcceptedAs}
 use Rattle.book.specs.WellFormed.{WellFormed}
@@ -113,7 +115,7 @@ module _ {b : List ℕ} {s : Scheme} {at : ℕ} (v : WellFormed s) (w : RowAt b 
   }
 
   after : (r : Record) → faultOf s r ≡ 0 → RowAt b (declare s r) at
-  unfolding declare withDependency withDeclared withRemoved
+  unfolding declare withDependency withDeclared withRemoved withOnly
   after (Attribute id kind) f = after-attribute id kind (attribute-accepted s id kind f)
   after (Object number set) f = after-object number set (object-accepted s number set f)
   after (Dependency left right) f =
@@ -122,6 +124,8 @@ module _ {b : List ℕ} {s : Scheme} {at : ℕ} (v : WellFormed s) (w : RowAt b 
   after (Declared set) f =
       record { object = w .object; cells = w .cells; reads = w .reads; declared = w .declared; ranged = w .ranged }
   after (Removed set) f =
+      record { object = w .object; cells = w .cells; reads = w .reads; declared = w .declared; ranged = w .ranged }
+  after OnlyDeclared f =
       record { object = w .object; cells = w .cells; reads = w .reads; declared = w .declared; ranged = w .ranged }
   after (Item variable attribute) f = w
   after (CompareTwo variable attribute operator variable2 attribute2) f = w
@@ -145,6 +149,7 @@ module _ {b : List ℕ} {s : Scheme} {rows : List ℕ} (at : ℕ) {next : ℕ} (
       (List·Memᴰ·append-cases rows m)
   with-row (Declared set) e f p m = older p m
   with-row (Removed set) e f p m = older p m
+  with-row OnlyDeclared e f p m = older p m
   with-row (Item variable attribute) e f p m = older p m
   with-row (CompareTwo variable attribute operator variable2 attribute2) e f p m = older p m
   with-row (CompareConstant variable attribute operator cell) e f p m = older p m

@@ -28,9 +28,9 @@ use Rattle.book.specs.Statements.{FaultMeans, ReadExactly, StopsWith, Nu
 use Rattle.book.specs.Statements.{SchemeWellFormed, MaximalObjectsRead, TablesOfBook, MaximalObjectsOfBook}
 use Rattle.book.specs.TablesOf.{tablesOf}
 use Rattle.book.proofs.Conditions.{fault-first, first-fault}
-use Rattle.book.proofs.Outcomes.{read-over, read-stops, stops-read, number-at-most, number-over, number-not-one}
+use Rattle.book.proofs.Outcomes.{read-over, read-stops, stops-read, number-one-of}
 use Rattle.book.proofs.Outcomes.{number-within, number-faulty, faulty-number, number-whole, whole-number}
-use Rattle.book.proofs.Outcomes.{good-last}
+use Rattle.book.proofs.Outcomes.{good-last, number-over, number-not-one}
 use Rattle.book.proofs.WellFormed.{accepted-well-formed, family-of-attributes, scheme-bounded, maximal-some}
 use Rattle.book.proofs.TablesOf.{tables-family, tables-in-range}
 use Rattle.book.proofs.RecordsSay.{accepted-scheme-said, accepted-rows-said, table-said, row-whole}
@@ -55,7 +55,7 @@ read-exactly b = record {
 
 pub number-means : (b : List ℕ) → NumberMeans b
 number-means b = record {
-  atMostNine = number-at-most b;
+  oneOf = number-one-of b;
   one = (
     λ e. ⊎-elim (λ h. h) (λ h. absurd (number-not-one b h e)) (lt-or-le 65536 (length b)),
     λ h. number-over b h,
@@ -68,9 +68,9 @@ number-means b = record {
     λ e. let h = number-within b (λ z. omega arith) in (h, number-whole b 0 (inl refl) h e),
     λ p. whole-number b 0 (p .0) (p .1),
   );
-  eight = (
-    λ e. let h = number-within b (λ z. omega arith) in (h, number-whole b 8 (inr (omega arith)) h e),
-    λ p. whole-number b 8 (p .0) (p .1),
+  twentyOne = (
+    λ e. let h = number-within b (λ z. omega arith) in (h, number-whole b 21 (inr (omega arith)) h e),
+    λ p. whole-number b 21 (p .0) (p .1),
   );
   nine = (
     λ e. let h = number-within b (λ z. omega arith) in (h, number-whole b 9 (inr (omega arith)) h e),
@@ -127,7 +127,8 @@ maximal-objects-read b =
       joining = object-joins-by-the-rule (dependenciesOf s) (s .sets) (s .objects) o;
       growing = grown-is-the-same-in-every-order (dependenciesOf s) (s .sets) (s .objects) o;
       computed = computed-is-the-list (dependenciesOf s) (s .sets) (s .objects) o;
-      list = maximal-objects-are-the-list (dependenciesOf s) (s .sets) (s .objects) o (declaredOf s) (removedOf s);
+      list =
+          maximal-objects-are-the-list (dependenciesOf s) (s .sets) (s .objects) o (s .only) (declaredOf s) (removedOf s);
     }
 
 -- ---- the tables and maximal objects of a good book

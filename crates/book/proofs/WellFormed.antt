@@ -18,7 +18,8 @@ use Rattle.sets.proofs.Numbers.{eq-or-ne}
 use Rattle.sets.proofs.Sets.{∪-cases, ∪-left, in-single, insert-in, ⊆-∪-left, ⊆-trans, ∪-lt, single-lt, zero-out, ⊆-le}
 use Rattle.records.specs.Walking.{none, one}
 use Rattle.records.specs.declared.Record.{Record}
-use Rattle.records.specs.declared.Record.the-variants.{Attribute, Object, Dependency, Row, Declared, Removed, Item}
+use Rattle.records.specs.declared.Record.the-variants.{Attribute, Object, Dependency, Row, Declared, Removed}
+use Rattle.records.specs.declared.Record.the-variants.{OnlyDeclared, Item}
 use Rattle.records.specs.declared.Record.the-variants.{CompareTwo, CompareConstant, End}
 use Rattle.scheme.specs.declared.Scheme.{Scheme}
 use Rattle.scheme.specs.Dependencies as Dependencies
@@ -30,7 +31,7 @@ use Rattle.reduction.specs.Statements.{OfAttributes}
 use Rattle.reduction.proofs.Places.{place-of}
 use Rattle.book.specs.Faults.{SixAtMost, faultOf}
 use Rattle.book.specs.Declaring.{nothingDeclared, withAttribute, withObject, withDependency, withDeclared}
-use Rattle.book.specs.Declaring.{withRemoved, declare}
+use Rattle.book.specs.Declaring.{withRemoved, withOnly, declare}
 use Rattle.book.specs.Reading.{Held}
 use Rattle.book.specs.Accepting.{AcceptedAs}
 use Rattle.book.specs.WellFormed.{SomeAttributes, ObjectSet, Arrays, WellFormed}
@@ -277,6 +278,30 @@ module _ {s : Scheme} (v : WellFormed s) where
     removedSets = eight-more (s .removed) (s .removals) M (v .arrays .removed) n (v .removedSets);
   }
 
+  only-well-formed : WellFormed (withOnly s)
+  unfolding withOnly
+  only-well-formed = record {
+    arrays = record {
+      kinds = v .arrays .kinds;
+      sets = v .arrays .sets;
+      left = v .arrays .left;
+      right = v .arrays .right;
+      declared = v .arrays .declared;
+      removed = v .arrays .removed;
+      dependencies = v .arrays .dependencies;
+      declarations = v .arrays .declarations;
+      removals = v .arrays .removals;
+    };
+    attributesBelow = v .attributesBelow;
+    objectsBelow = v .objectsBelow;
+    kindsBelow = v .kindsBelow;
+    objectSets = v .objectSets;
+    otherSets = v .otherSets;
+    sides = v .sides;
+    declaredSets = v .declaredSets;
+    removedSets = v .removedSets;
+  }
+
 -- ---- accepted records
 
 declare-well-formed : (s : Scheme) (r : Record) → WellFormed s → faultOf s r ≡ 0 → WellFormed (declare s r)
@@ -288,6 +313,7 @@ declare-well-formed s (Dependency left right) v f =
 declare-well-formed s (Row object c0 c1 c2 c3 c4 c5) v f = v
 declare-well-formed s (Declared set) v f = declared-well-formed v set (declared-accepted s set f)
 declare-well-formed s (Removed set) v f = removed-well-formed v set (removed-accepted s set f)
+declare-well-formed s OnlyDeclared v f = only-well-formed v
 declare-well-formed s (Item variable attribute) v f = v
 declare-well-formed s (CompareTwo variable attribute operator variable2 attribute2) v f = v
 declare-well-formed s (CompareConstant variable attribute operator cell) v f = v
@@ -340,5 +366,5 @@ module _ {s : Scheme} (v : WellFormed s) where
   pub maximal-some : (M : ℕ) → List·Memᴰ M (maximalOf s) → SomeObjects (s .objects) M
   unfolding maximalOf
   maximal-some M m =
-      maximal-objects-are-the-list (dependenciesOf s) (s .sets) (s .objects) scheme-bounded (declaredOf s) (removedOf s)
-      .someObjects (v .declaredSets) M m
+      maximal-objects-are-the-list (dependenciesOf s) (s .sets) (s .objects) scheme-bounded (s .only) (declaredOf s)
+      (removedOf s) .someObjects (v .declaredSets) M m

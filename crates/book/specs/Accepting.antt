@@ -7,11 +7,12 @@ use mathlib.Core.Bool.{true, false}
 use mathlib.Core.List.{List}
 use Prim.Native.Nat.{ℕ, _≤_}
 use lib.ListN.{length}
+use Rattle.records.specs.Records.{ofBook}
 use Rattle.records.specs.Walking as Walking
 use Rattle.records.specs.declared.Record.{Record}
 use Rattle.scheme.specs.declared.Scheme.{Scheme}
-use Rattle.scheme.specs.OfScheme.{unmatchedOf, cyclicOf}
-use Rattle.book.specs.Faults.{ofBook, faultOf}
+use Rattle.scheme.specs.OfScheme.{bothOf, cyclicOf}
+use Rattle.book.specs.Faults.{faultOf}
 use Rattle.book.specs.Reading.{Held, nothingHeld, bookRules}
 
 -- ---- accepted records
@@ -35,11 +36,11 @@ Faulty b s at n = Walking.Faulty ofBook (faultOf s) b at n
 -- ---- the end: the faults of the whole scheme "After the last record"
 
 pub data AtLast (s : Scheme) : ℕ → Type 0 where
-  -- "a kind 6 set equal to no computed one 8"
-  unmatched : unmatchedOf s ≡ true → AtLast s 8
+  -- "21 a book with both kinds, in place of 8"
+  both : bothOf s ≡ true → AtLast s 21
   -- "a remaining maximal object with a cycle 9"
-  cyclic : unmatchedOf s ≡ false → cyclicOf s ≡ true → AtLast s 9
-  good : unmatchedOf s ≡ false → cyclicOf s ≡ false → AtLast s 0
+  cyclic : bothOf s ≡ false → cyclicOf s ≡ true → AtLast s 9
+  good : bothOf s ≡ false → cyclicOf s ≡ false → AtLast s 0
 
 -- reading stops at a position with a number: at a faulty record or at the end
 pub data Stops (b : List ℕ) (s : Scheme) (at : ℕ) : ℕ → Type 0 where

@@ -12,7 +12,8 @@ use Rattle.sets.specs.Sets.{_∈_, _∉_, _⊆_, count}
 use Rattle.values.specs.Values.{inRange}
 use Rattle.records.specs.Checks.{Condition, _gives_}
 use Rattle.records.specs.declared.Record.{Record}
-use Rattle.records.specs.declared.Record.the-variants.{Attribute, Object, Dependency, Row, Declared, Removed, Item}
+use Rattle.records.specs.declared.Record.the-variants.{Attribute, Object, Dependency, Row, Declared, Removed}
+use Rattle.records.specs.declared.Record.the-variants.{OnlyDeclared, Item}
 use Rattle.records.specs.declared.Record.the-variants.{CompareTwo, CompareConstant, End}
 use Rattle.relation.specs.Tables.{cellOf}
 use Rattle.scheme.specs.declared.Scheme.{Scheme}
@@ -72,6 +73,7 @@ conditions s (Dependency left right) =
 conditions s (Row object c0 c1 c2 c3 c4 c5) = rowConditions s object (c0 ∷ c1 ∷ c2 ∷ c3 ∷ c4 ∷ c5 ∷ [])
 conditions s (Declared set) = maximalConditions s (s .declarations) set
 conditions s (Removed set) = maximalConditions s (s .removals) set
+conditions s OnlyDeclared = []
 conditions s (Item variable attribute) = (Unit {0} gives 2) ∷ []
 conditions s (CompareTwo variable attribute operator variable2 attribute2) = (Unit {0} gives 2) ∷ []
 conditions s (CompareConstant variable attribute operator cell) = (Unit {0} gives 2) ∷ []

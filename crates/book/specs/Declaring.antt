@@ -1,11 +1,13 @@
 -- What a record without a fault adds to a scheme: "A record uses only what stands before it."
 -- In order: the scheme that nothing was declared in, what each kind adds.
 -- Assumes nothing.
+use mathlib.Core.Bool.{true, false}
 use Prim.Native.Nat.{ℕ, _+_}
 use lib.ListN.{set, replicate}
 use Rattle.sets.specs.Sets.{insert}
 use Rattle.records.specs.declared.Record.{Record}
-use Rattle.records.specs.declared.Record.the-variants.{Attribute, Object, Dependency, Row, Declared, Removed, Item}
+use Rattle.records.specs.declared.Record.the-variants.{Attribute, Object, Dependency, Row, Declared, Removed}
+use Rattle.records.specs.declared.Record.the-variants.{OnlyDeclared, Item}
 use Rattle.records.specs.declared.Record.the-variants.{CompareTwo, CompareConstant, End}
 use Rattle.scheme.specs.declared.Scheme.{Scheme}
 
@@ -23,6 +25,7 @@ nothingDeclared = record {
   declarations = 0;
   removed = replicate 8 0;
   removals = 0;
+  only = false;
 }
 
 -- "attribute, id 0..31", with its value kind
@@ -39,6 +42,7 @@ withAttribute s id kind = record {
   declarations = s .declarations;
   removed = s .removed;
   removals = s .removals;
+  only = s .only;
 }
 
 -- "object 0..31 and its attributes"
@@ -55,6 +59,7 @@ withObject s number attributes = record {
   declarations = s .declarations;
   removed = s .removed;
   removals = s .removals;
+  only = s .only;
 }
 
 -- "dependency: left determines right", behind those before it
@@ -71,6 +76,7 @@ withDependency s left right = record {
   declarations = s .declarations;
   removed = s .removed;
   removals = s .removals;
+  only = s .only;
 }
 
 -- "declared maximal object", behind those before it
@@ -87,6 +93,7 @@ withDeclared s M = record {
   declarations = s .declarations + 1;
   removed = s .removed;
   removals = s .removals;
+  only = s .only;
 }
 
 -- "computed maximal object to be removed", behind those before it
@@ -103,6 +110,24 @@ withRemoved s M = record {
   declarations = s .declarations;
   removed = set (s .removed) (s .removals) M;
   removals = s .removals + 1;
+  only = s .only;
+}
+
+-- "only declared maximal objects count"
+unfoldable pub withOnly : Scheme → Scheme
+withOnly s = record {
+  kinds = s .kinds;
+  attributes = s .attributes;
+  sets = s .sets;
+  objects = s .objects;
+  left = s .left;
+  right = s .right;
+  dependencies = s .dependencies;
+  declared = s .declared;
+  declarations = s .declarations;
+  removed = s .removed;
+  removals = s .removals;
+  only = true;
 }
 
 -- what a record adds; a row adds nothing to the scheme, and the kinds of a query stand in no book
@@ -113,6 +138,7 @@ declare s (Dependency left right) = withDependency s left right
 declare s (Row object c0 c1 c2 c3 c4 c5) = s
 declare s (Declared M) = withDeclared s M
 declare s (Removed M) = withRemoved s M
+declare s OnlyDeclared = withOnly s
 declare s (Item variable attribute) = s
 declare s (CompareTwo variable attribute operator variable2 attribute2) = s
 declare s (CompareConstant variable attribute operator cell) = s

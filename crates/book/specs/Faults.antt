@@ -1,6 +1,6 @@
 -- What is wrong with a record of a book: "Reading a book" of the paper. The checks of each kind stand in the paper's
 -- order, each with the number that it gives; the first that holds is the fault.
--- In order: kinds of a book, a row's cells, the checks of a record, its fault.
+-- In order: a row's cells, the checks of a record, its fault.
 -- Not here: the first of some checks (`records`), a body that is cut short (`Reading`). Assumes nothing.
 use mathlib.Core.Bool.{Bool, true, false, not, _&&_, _||_}
 use mathlib.Core.List.{List, [], _∷_}
@@ -11,14 +11,11 @@ use Rattle.sets.specs.Sets.{has, within, isEmpty, count}
 use Rattle.values.specs.Values.{inRange}
 use Rattle.records.specs.Checks.{firstOf}
 use Rattle.records.specs.declared.Record.{Record}
-use Rattle.records.specs.declared.Record.the-variants.{Attribute, Object, Dependency, Row, Declared, Removed, Item}
+use Rattle.records.specs.declared.Record.the-variants.{Attribute, Object, Dependency, Row, Declared, Removed}
+use Rattle.records.specs.declared.Record.the-variants.{OnlyDeclared, Item}
 use Rattle.records.specs.declared.Record.the-variants.{CompareTwo, CompareConstant, End}
 use Rattle.relation.specs.Tables.{cellOf}
 use Rattle.scheme.specs.declared.Scheme.{Scheme}
-
--- "A book has kinds 1 to 6"
-unfoldable pub ofBook : ℕ → Bool
-ofBook k = leb 1 k && leb k 6
 
 -- ---- a row's cells. "A row's cells follow ascending attribute id; cells not needed are zero."
 
@@ -79,6 +76,8 @@ checks s (Dependency left right) =
 checks s (Row object c0 c1 c2 c3 c4 c5) = rowChecks s object (c0 ∷ c1 ∷ c2 ∷ c3 ∷ c4 ∷ c5 ∷ [])
 checks s (Declared set) = maximalChecks s (s .declarations) set
 checks s (Removed set) = maximalChecks s (s .removals) set
+-- "Book kind 14, no body .. any number of them is one"
+checks s OnlyDeclared = []
 checks s (Item variable attribute) = (true, 2) ∷ []
 checks s (CompareTwo variable attribute operator variable2 attribute2) = (true, 2) ∷ []
 checks s (CompareConstant variable attribute operator cell) = (true, 2) ∷ []

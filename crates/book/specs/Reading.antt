@@ -7,18 +7,20 @@ use mathlib.Core.List.{List, [], _∷_, _++_}
 use Prim.Native.Nat.{ℕ}
 use lib.Dec.{eqb, ltb}
 use lib.ListN.{length, take, drop}
+use Rattle.records.specs.Records.{ofBook}
 use Rattle.records.specs.Walking.{Rules, Stop, shortNumber, walk}
 use Rattle.records.specs.declared.Record.{Record}
-use Rattle.records.specs.declared.Record.the-variants.{Attribute, Object, Dependency, Row, Declared, Removed, Item}
+use Rattle.records.specs.declared.Record.the-variants.{Attribute, Object, Dependency, Row, Declared, Removed}
+use Rattle.records.specs.declared.Record.the-variants.{OnlyDeclared, Item}
 use Rattle.records.specs.declared.Record.the-variants.{CompareTwo, CompareConstant, End}
 use Rattle.records.specs.declared.Reading.{Reading}
 use Rattle.records.specs.declared.Reading.the-variants.{Nothing, Unknown, Short, Found}
 use Rattle.scheme.specs.declared.Scheme.{Scheme}
-use Rattle.scheme.specs.OfScheme.{maximalOf, unmatchedOf, cyclicOf}
+use Rattle.scheme.specs.OfScheme.{maximalOf, bothOf, cyclicOf}
 use Rattle.reduction.specs.Packed.{padded}
 use Rattle.book.specs.declared.Book.{Book}
 use Rattle.book.specs.declared.Walked.{Walked}
-use Rattle.book.specs.Faults.{ofBook, faultOf}
+use Rattle.book.specs.Faults.{faultOf}
 use Rattle.book.specs.Declaring.{nothingDeclared, declare}
 
 -- what reading gives: a refused book has the scheme and the rows of the records before the fault
@@ -36,6 +38,7 @@ isRow (Dependency left right) = false
 isRow (Row object c0 c1 c2 c3 c4 c5) = true
 isRow (Declared set) = false
 isRow (Removed set) = false
+isRow OnlyDeclared = false
 isRow (Item variable attribute) = false
 isRow (CompareTwo variable attribute operator variable2 attribute2) = false
 isRow (CompareConstant variable attribute operator cell) = false
@@ -83,15 +86,15 @@ records b = outcomeOf (walk bookRules b nothingHeld)
 unfoldable pub walkedOf : Outcome → Walked
 walkedOf o = record { refusal = o .number; rows = length (o .rows); scheme = o .scheme }
 
--- ---- "After the last record: a kind 6 set equal to no computed one 8; a remaining maximal object with a cycle 9."
+-- ---- "After the last record": "21 a book with both kinds, in place of 8"; "a remaining maximal object with a cycle 9."
 
 unfoldable pub lastNumber : Bool → Bool → ℕ
-lastNumber true cyclic = 8
+lastNumber true cyclic = 21
 lastNumber false true = 9
 lastNumber false false = 0
 
 unfoldable pub lastFault : Scheme → ℕ
-lastFault s = lastNumber (unmatchedOf s) (cyclicOf s)
+lastFault s = lastNumber (bothOf s) (cyclicOf s)
 
 unfoldable pub afterLast : Outcome → Outcome
 afterLast o =
@@ -112,10 +115,10 @@ read b =
 
 -- ---- what the code gives
 
--- the maximal objects of the scheme where all records were accepted: where the number is 0, 8 or 9
+-- the maximal objects of the scheme where all records were accepted: where the number is 0, 21 or 9
 unfoldable pub maximalsOf : Outcome → List ℕ
 maximalsOf o =
-    elim (eqb (o .number) 0 || eqb (o .number) 8 || eqb (o .number) 9) [ true ↦ maximalOf (o .scheme) | false ↦ [] ]
+    elim (eqb (o .number) 0 || eqb (o .number) 21 || eqb (o .number) 9) [ true ↦ maximalOf (o .scheme) | false ↦ [] ]
 
 -- a number, a count of rows, a scheme and a list of maximal objects, of which there are 40 at most, with 0 behind them
 unfoldable pub bookWith : ℕ → ℕ → Scheme → List ℕ → Book

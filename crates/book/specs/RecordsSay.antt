@@ -3,6 +3,7 @@
 -- In order: the fields of one kind in order, the fields of one kind by number, the scheme, the rows, a table.
 -- Assumes nothing.
 use mathlib.Core.Path.{_≡_}
+use mathlib.Core.Bool.{true}
 use mathlib.Core.Logic.{_↔_}
 use mathlib.Core.List.{List, [], _∷_, List·Memᴰ}
 use Prim.Native.Nat.{ℕ, _+_, _≤_}
@@ -13,6 +14,7 @@ use Rattle.records.specs.Records.{kindOf, bytesOf}
 use Rattle.records.specs.Reader.{Reads}
 use Rattle.records.specs.declared.Record.{Record}
 use Rattle.records.specs.declared.Record.the-variants.{Attribute, Object, Dependency, Row, Declared, Removed}
+use Rattle.records.specs.declared.Record.the-variants.{OnlyDeclared}
 use Rattle.relation.specs.Tables as Tables
 use Rattle.scheme.specs.declared.Scheme.{Scheme}
 use Rattle.scheme.specs.Dependencies as Dependencies
@@ -63,6 +65,7 @@ pub record SchemeSaid (rs : List Record) (s : Scheme) : Type 0 where
   pub dependencies : Gathered SaysDependency rs (dependenciesOf s)
   pub declared : Gathered SaysDeclared rs (declaredOf s)
   pub removed : Gathered SaysRemoved rs (removedOf s)
+  pub only : (s .only ≡ true) ↔ List·Memᴰ OnlyDeclared rs
   pub leftBehind : ZeroFrom (s .dependencies) (s .left)
   pub rightBehind : ZeroFrom (s .dependencies) (s .right)
   pub declaredBehind : ZeroFrom (s .declarations) (s .declared)

@@ -4,7 +4,7 @@
 -- Assumes nothing.
 use mathlib.Core.Path.{_≡_}
 use mathlib.Core.Bool.{true}
-use mathlib.Core.Logic.{_↔_}
+use mathlib.Core.Logic.{_⊎_, _↔_}
 use mathlib.Core.List.{List, [], _∷_, List·Memᴰ}
 use Prim.Native.Nat.{ℕ, _+_, _^_, _≤_, _<_}
 use lib.ListN.{length}
@@ -75,11 +75,12 @@ pub record AcceptedWhole (b : List ℕ) (n : ℕ) : Type 0 where
   pub atLast : AtLast scheme n
 
 pub record NumberMeans (b : List ℕ) : Type 0 where
-  pub atMostNine : read b .number ≤ 9
+  -- "8 is no longer given"
+  pub oneOf : (read b .number ≤ 7) ⊎ ((read b .number ≡ 9) ⊎ (read b .number ≡ 21))
   pub one : (read b .number ≡ 1) ↔ (65536 < length b)
   pub twoToSeven : (n : ℕ) → 2 ≤ n → n ≤ 7 → (read b .number ≡ n) ↔ ((length b ≤ 65536) × FaultyRecord b n)
   pub zero : (read b .number ≡ 0) ↔ ((length b ≤ 65536) × AcceptedWhole b 0)
-  pub eight : (read b .number ≡ 8) ↔ ((length b ≤ 65536) × AcceptedWhole b 8)
+  pub twentyOne : (read b .number ≡ 21) ↔ ((length b ≤ 65536) × AcceptedWhole b 21)
   pub nine : (read b .number ≡ 9) ↔ ((length b ≤ 65536) × AcceptedWhole b 9)
 
 -- ---- what accepted records say
@@ -114,7 +115,7 @@ pub record MaximalObjectsRead (b : List ℕ) : Type 0 where
       → GrownInEveryOrder (dependenciesOf (read b .scheme)) (read b .scheme .sets) (read b .scheme .objects) start
   pub computed : ComputedList (dependenciesOf (read b .scheme)) (read b .scheme .sets) (read b .scheme .objects)
   pub list : MaximalObjectList (dependenciesOf (read b .scheme)) (read b .scheme .sets) (read b .scheme .objects)
-      (declaredOf (read b .scheme)) (removedOf (read b .scheme))
+      (read b .scheme .only) (declaredOf (read b .scheme)) (removedOf (read b .scheme))
 
 -- ---- the tables and maximal objects of a good book
 

@@ -6,11 +6,12 @@ ghost use lib.ListN.{length, drop};
 ghost use Rattle.sets.specs.Sets.{count};
 ghost use Rattle.scheme.specs.OfScheme.{maximalOf};
 ghost use Rattle.records.specs.Checks.{firstOf};
+ghost use Rattle.records.specs.Records.{ofBook};
 ghost use Rattle.records.specs.Walking.{shortNumber};
-ghost use Rattle.book.specs.Faults.{ofBook, someNonZero, someOutside, wrongCells, SixAtMost, rowChecks};
+ghost use Rattle.book.specs.Faults.{someNonZero, someOutside, wrongCells, SixAtMost, rowChecks};
 ghost use Rattle.book.specs.Faults.{maximalChecks, faultOf};
 ghost use Rattle.book.specs.Declaring.{nothingDeclared, withAttribute, withObject, withDependency, withDeclared};
-ghost use Rattle.book.specs.Declaring.{withRemoved, declare};
+ghost use Rattle.book.specs.Declaring.{withRemoved, withOnly, declare};
 ghost use Rattle.book.specs.Reading.{isRow, stopNumber, records, walkedOf, lastNumber, lastFault};
 ghost use Rattle.book.specs.Reading.{read, bookWith, bookOf, stored};
 use records::Reading;
@@ -180,6 +181,7 @@ fn fault(s: Scheme, r: Record) -> u8
         } => { row_fault(s, object, [c0, c1, c2, c3, c4, c5]) }
         Record::Declared { set } => maximal_fault(s, s.declarations, set),
         Record::Removed { set } => maximal_fault(s, s.removals, set),
+        Record::OnlyDeclared => 0,
         _ => 2,
     }
 }
@@ -200,10 +202,11 @@ fn nothing_declared() -> Scheme
         declarations: 0,
         removed: [0u32; 8],
         removals: 0,
+        only: false,
     }
 }
 
-// What kinds 1, 2, 3, 5 and 6 add to a scheme.
+// What kinds 1, 2, 3, 5, 6 and 14 add to a scheme.
 fn with_attribute(mut s: Scheme, id: u8, kind: u8) -> Scheme
     requires { ⌜ id < 32 ⌝ }
     ensures { λ r. ⌜ r ≡ withAttribute s id kind ⌝ }
@@ -255,6 +258,13 @@ fn with_removed(mut s: Scheme, set: ObjectSet) -> Scheme
     s
 }
 
+fn with_only(mut s: Scheme) -> Scheme
+    ensures { λ r. ⌜ r ≡ withOnly s ⌝ }
+{
+    s.only = true;
+    s
+}
+
 // What a record without a fault adds to a scheme.
 fn declare(s: Scheme, r: Record) -> Scheme
     requires { ⌜ faultOf s r ≡ 0 ⌝ }
@@ -266,6 +276,7 @@ fn declare(s: Scheme, r: Record) -> Scheme
         Record::Dependency { left, right } => with_dependency(s, left, right),
         Record::Declared { set } => with_declared(s, set),
         Record::Removed { set } => with_removed(s, set),
+        Record::OnlyDeclared => with_only(s),
         _ => s,
     }
 }
@@ -293,7 +304,7 @@ fn is_row(r: Record) -> bool
 fn short_fault(kind: u8) -> u8
     ensures { λ r. ⌜ r ≡ shortNumber ofBook kind ⌝ }
 {
-    if 1 <= kind && kind <= 6 { 3 } else { 2 }
+    if records::of_book(kind) { 3 } else { 2 }
 }
 
 // The number where no whole record stands: 0 at the end.
@@ -353,7 +364,7 @@ fn walk(bytes: &[u8], directory: &mut [u32]) -> Walked
 
 // A book that was read: the number that it is refused with, or 0, how many rows it has, its scheme, and its maximal
 // objects, with 0 behind them. A refused book has the rows and the scheme of the records before the fault, and maximal
-// objects only where all records were accepted (0, 8 and 9).
+// objects only where all records were accepted (0, 21 and 9).
 pub struct Book {
     pub refusal: u8,
     pub rows: usize,
@@ -376,11 +387,11 @@ fn stopped(refusal: u8, rows: usize, scheme: Scheme) -> Book
 }
 
 // The fault of a scheme after the last record.
-fn last_fault(unmatched: bool, cyclic: bool) -> u8
-    ensures { λ r. ⌜ r ≡ lastNumber unmatched cyclic ⌝ }
+fn last_fault(both: bool, cyclic: bool) -> u8
+    ensures { λ r. ⌜ r ≡ lastNumber both cyclic ⌝ }
 {
-    if unmatched {
-        return 8;
+    if both {
+        return 21;
     }
     if cyclic { 9 } else { 0 }
 }
@@ -392,7 +403,7 @@ fn finished(rows: usize, scheme: Scheme) -> Book
     let m = scheme::maximal_objects(scheme);
     let maximal = m.sets;
     Book {
-        refusal: last_fault(m.unmatched, m.cyclic),
+        refusal: last_fault(m.both, m.cyclic),
         rows,
         scheme,
         maximal,

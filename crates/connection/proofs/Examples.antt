@@ -10,7 +10,8 @@ use Rattle.sets.specs.Sets.{bit, has, within, _∩_, _∪_, _∖_, single, isEm
 use Rattle.values.specs.Values.{inRange, signed, valueOf, lessCell, matches}
 use Rattle.values.specs.Operators.{compares, holds, allows}
 use Rattle.records.specs.Fields.{bytes, value, field}
-use Rattle.records.specs.Records.{isKind, bodyLengths, bodyLength, kindOf, bytesOf, bytesOfAll}
+use Rattle.records.specs.Records.{kinds, whose, isKind, ofBook, ofQuery, bodyLength, kindOf}
+use Rattle.records.specs.Records.{bytesOf, bytesOfAll}
 use Rattle.records.specs.Reader.{bodies, recordOf, readFront, readAt}
 use Rattle.records.specs.Checks.{firstOf}
 use Rattle.records.specs.Walking.{shortNumber, walkFrom, walk}
@@ -23,12 +24,13 @@ use Rattle.relation.specs.Joins.{together, shown, lowestFor, lowestStanding}
 use Rattle.relation.specs.Computed.{allPass, rowsMatch, matchesAll, eachPassing, goingOn, joinRows, part}
 use Rattle.scheme.specs.Dependencies.{pass, passes, closure}
 use Rattle.scheme.specs.Growing.{familyOf, attributesOf, joins, holding, rounds, grown}
-use Rattle.scheme.specs.MaximalObjects.{computed, isOne, removing, adding, maximalObjects, someUnmatched, someCyclic}
-use Rattle.scheme.specs.OfScheme.{pairs, computedOf, maximalOf, unmatchedOf, cyclicOf}
-use Rattle.book.specs.Faults.{ofBook, someNonZero, someOutside, wrongCells, rowChecks, maximalChecks, checks}
+use Rattle.scheme.specs.MaximalObjects.{computed, isOne, removing, adding, counted}
+use Rattle.scheme.specs.MaximalObjects.{maximalObjects, bothKinds, someCyclic}
+use Rattle.scheme.specs.OfScheme.{pairs, computedOf, maximalOf, bothOf, cyclicOf}
+use Rattle.book.specs.Faults.{someNonZero, someOutside, wrongCells, rowChecks, maximalChecks, checks}
 use Rattle.book.specs.Faults.{faultOf}
 use Rattle.book.specs.Declaring.{nothingDeclared, withAttribute, withObject, withDependency, withDeclared, withRemoved}
-use Rattle.book.specs.Declaring.{declare}
+use Rattle.book.specs.Declaring.{withOnly, declare}
 use Rattle.book.specs.Reading.{isRow, withRow, records, lastNumber, lastFault, afterLast, read}
 use Rattle.book.specs.TablesOf as Tables
 use Rattle.book.specs.TablesOf.{tablesOf}
@@ -36,7 +38,6 @@ use Rattle.book.proofs.Examples.{survey, ring}
 use Rattle.query.specs.Asking.{itemOf, itemsOf, comparisonOf, comparisonsOf, nameOf, namesOf, naming, attributesNamed}
 use Rattle.query.specs.Asking.{filled, askedOf}
 use Rattle.query.specs.Faults as Queries
-use Rattle.query.specs.Faults.{ofQuery}
 use Rattle.query.specs.Reading as Query
 use Rattle.query.specs.Reading.{isEnd, walkQuery, containing, isNil, unconnected, someUnconnected, wholeNumber, atEnd}
 use Rattle.sorted.specs.Rows as Sorted
@@ -144,20 +145,20 @@ outcomes =
     ∷ []
 
 pub outcomes-hold : map (λ t. t .gives) outcomes ≡ map (λ t. t .says) outcomes
-unfolding outcomes outcome queries twoObjects lengths withEmpty survey ring spaceAfter answerOf refused
-    number spaceNumber rowsOf answerRows itemKinds choices inFront rowsFor cellsOf allTrue isTrue rightCell itemCells
+unfolding outcomes outcome queries twoObjects lengths withEmpty survey ring spaceAfter answerOf refused number
+    spaceNumber rowsOf answerRows itemKinds choices inFront rowsFor cellsOf allTrue isTrue rightCell itemCells
     Answers.rowsOf connection parts withRows Sorted.cellsOf insertRows insertRow lessRow Query.read atEnd wholeNumber
     someUnconnected unconnected isNil containing walkQuery isEnd Queries.faultOf Queries.checks ofQuery askedOf filled
-    attributesNamed naming namesOf nameOf comparisonsOf comparisonOf itemsOf itemOf tablesOf Tables.rowsOf Tables.rowOf
-    Tables.cellsOf
-    read afterLast lastFault lastNumber records withRow isRow declare withRemoved withDeclared withDependency withObject
-    withAttribute nothingDeclared faultOf checks maximalChecks rowChecks wrongCells someOutside someNonZero ofBook
-    cyclicOf unmatchedOf maximalOf computedOf pairs someCyclic someUnmatched maximalObjects adding removing isOne
-    computed grown rounds holding joins attributesOf familyOf closure passes pass part joinRows goingOn eachPassing
-    matchesAll rowsMatch allPass lowestStanding lowestFor shown together project projected cellOf kept keptOf keeps goes
-    goesFor acyclic left settle staying stays removable someHolds around union walk walkFrom shortNumber firstOf readAt
-    readFront recordOf bodies bytesOfAll bytesOf kindOf bodyLength bodyLengths isKind field value bytes allows holds
-    compares matches lessCell valueOf signed inRange members rank isEmpty single _∖_ _∪_ _∩_ within has bit
+    attributesNamed naming namesOf nameOf comparisonsOf comparisonOf itemsOf itemOf tablesOf Tables.rowsOf
+    Tables.rowOf Tables.cellsOf read afterLast lastFault lastNumber records withRow isRow declare withOnly withRemoved
+    withDeclared withDependency withObject withAttribute nothingDeclared faultOf checks maximalChecks rowChecks
+    wrongCells someOutside someNonZero ofBook cyclicOf bothOf maximalOf computedOf pairs someCyclic counted bothKinds
+    maximalObjects adding removing isOne computed grown rounds holding joins attributesOf familyOf closure passes pass
+    part joinRows goingOn eachPassing matchesAll rowsMatch allPass lowestStanding lowestFor shown together project
+    projected cellOf kept keptOf keeps goes goesFor acyclic left settle staying stays removable someHolds around union
+    walk walkFrom shortNumber firstOf readAt readFront recordOf bodies bytesOfAll bytesOf kindOf bodyLength isKind
+    whose kinds field value bytes allows holds compares matches lessCell valueOf signed inRange members rank isEmpty
+    single _∖_ _∪_ _∩_ within has bit
 outcomes-hold = refl
 
 unfoldable pub rowTrials : List Trial
@@ -192,18 +193,18 @@ rowTrials =
     ∷ []
 
 pub rows-hold : map (λ t. t .gives) rowTrials ≡ map (λ t. t .says) rowTrials
-unfolding rowTrials rows twoObjects lengths withEmpty survey ring spaceAfter answerOf refused
-    number spaceNumber rowsOf answerRows itemKinds choices inFront rowsFor cellsOf allTrue isTrue rightCell itemCells
-    Answers.rowsOf connection parts withRows Sorted.cellsOf insertRows insertRow lessRow Query.read atEnd wholeNumber
-    someUnconnected unconnected isNil containing walkQuery isEnd Queries.faultOf Queries.checks ofQuery askedOf filled
-    attributesNamed naming namesOf nameOf comparisonsOf comparisonOf itemsOf itemOf tablesOf Tables.rowsOf Tables.rowOf
-    Tables.cellsOf
-    read afterLast lastFault lastNumber records withRow isRow declare withRemoved withDeclared withDependency withObject
-    withAttribute nothingDeclared faultOf checks maximalChecks rowChecks wrongCells someOutside someNonZero ofBook
-    cyclicOf unmatchedOf maximalOf computedOf pairs someCyclic someUnmatched maximalObjects adding removing isOne
-    computed grown rounds holding joins attributesOf familyOf closure passes pass part joinRows goingOn eachPassing
-    matchesAll rowsMatch allPass lowestStanding lowestFor shown together project projected cellOf kept keptOf keeps goes
-    goesFor acyclic left settle staying stays removable someHolds around union walk walkFrom shortNumber firstOf readAt
-    readFront recordOf bodies bytesOfAll bytesOf kindOf bodyLength bodyLengths isKind field value bytes allows holds
-    compares matches lessCell valueOf signed inRange members rank isEmpty single _∖_ _∪_ _∩_ within has bit
+unfolding rowTrials rows twoObjects lengths withEmpty survey ring spaceAfter answerOf refused number spaceNumber
+    rowsOf answerRows itemKinds choices inFront rowsFor cellsOf allTrue isTrue rightCell itemCells Answers.rowsOf
+    connection parts withRows Sorted.cellsOf insertRows insertRow lessRow Query.read atEnd wholeNumber someUnconnected
+    unconnected isNil containing walkQuery isEnd Queries.faultOf Queries.checks ofQuery askedOf filled attributesNamed
+    naming namesOf nameOf comparisonsOf comparisonOf itemsOf itemOf tablesOf Tables.rowsOf Tables.rowOf Tables.cellsOf
+    read afterLast lastFault lastNumber records withRow isRow declare withOnly withRemoved withDeclared withDependency
+    withObject withAttribute nothingDeclared faultOf checks maximalChecks rowChecks wrongCells someOutside someNonZero
+    ofBook cyclicOf bothOf maximalOf computedOf pairs someCyclic counted bothKinds maximalObjects adding removing
+    isOne computed grown rounds holding joins attributesOf familyOf closure passes pass part joinRows goingOn
+    eachPassing matchesAll rowsMatch allPass lowestStanding lowestFor shown together project projected cellOf kept
+    keptOf keeps goes goesFor acyclic left settle staying stays removable someHolds around union walk walkFrom
+    shortNumber firstOf readAt readFront recordOf bodies bytesOfAll bytesOf kindOf bodyLength isKind whose kinds field
+    value bytes allows holds compares matches lessCell valueOf signed inRange members rank isEmpty single _∖_ _∪_ _∩_
+    within has bit
 rows-hold = refl

@@ -28,7 +28,8 @@ use Rattle.connection.proofs.Answered.{answer-rows-ranged}
 use Rattle.connection.proofs.Combined.{answer-combined, combined-answer}
 use Rattle.connection.proofs.Spaces.{AllWide}
 use Rattle.connection.proofs.Outcomes.{number-of-book, number-of-query, number-fourteen, number-thirteen}
-use Rattle.connection.proofs.Outcomes.{number-full, number-otherwise, number-at-most, outcome-there, outcome-only}
+use Rattle.connection.proofs.Outcomes.{number-full, number-otherwise, number-one-of, number-not-eight}
+use Rattle.connection.proofs.Outcomes.{outcome-there, outcome-only}
 use Rattle.connection.proofs.Outcomes.{cells-as-many, rows-in-front, cells-behind}
 
 -- ---- names: those of a query that was read over a book are in range, whatever its number
@@ -91,7 +92,8 @@ answer-number-means b q serial room = record {
   thirteen = number-thirteen b q serial room;
   full = number-full b q serial room;
   otherwise = λ n. number-otherwise b q serial room;
-  oneOf = number-at-most b q serial room;
+  oneOf = number-one-of b q serial room;
+  notEight = number-not-eight b q serial room;
 }
 
 -- ---- demand 1

@@ -1,15 +1,15 @@
 -- A few words for each number of the fixed list of refusals, as bytes. `docs/REFUSALS.md` has the same table.
 -- Assumes nothing.
-use mathlib.Core.Bool.{true, false, _&&_}
+use mathlib.Core.Bool.{Bool, true, false}
 use mathlib.Core.List.{List, [], _∷_}
 use Prim.Native.Nat.{ℕ}
 use lib.Dec.{ltb}
-use lib.ListN.{getD}
+use lib.ListN.{length, getD}
 use Rattle.printout.specs.Printing.{printed, after}
 use Rattle.printout.specs.declared.Printed.{Printed}
 use Rattle.printout.specs.declared.Printed.the-variants.{NotFit}
 
--- from number 0, which no refusal has
+-- from number 0 on; a number that no refusal has has none
 unfoldable pub words : List (List ℕ)
 words =
     []
@@ -27,8 +27,8 @@ words =
     ∷ (100 ∷ 101 ∷ 99 ∷ 108 ∷ 97 ∷ 114 ∷ 101 ∷ 100 ∷ 32 ∷ 97 ∷ 108 ∷ 114 ∷ 101 ∷ 97 ∷ 100 ∷ 121 ∷ [])
     -- 7: not declared
     ∷ (110 ∷ 111 ∷ 116 ∷ 32 ∷ 100 ∷ 101 ∷ 99 ∷ 108 ∷ 97 ∷ 114 ∷ 101 ∷ 100 ∷ [])
-    -- 8: removal without a match
-    ∷ (114 ∷ 101 ∷ 109 ∷ 111 ∷ 118 ∷ 97 ∷ 108 ∷ 32 ∷ 119 ∷ 105 ∷ 116 ∷ 104 ∷ 111 ∷ 117 ∷ 116 ∷ 32 ∷ 97 ∷ 32 ∷ 109 ∷ 97 ∷ 116 ∷ 99 ∷ 104 ∷ [])
+    -- 8: "8 is no longer given"
+    ∷ []
     -- 9: cycle in a maximal object
     ∷ (99 ∷ 121 ∷ 99 ∷ 108 ∷ 101 ∷ 32 ∷ 105 ∷ 110 ∷ 32 ∷ 97 ∷ 32 ∷ 109 ∷ 97 ∷ 120 ∷ 105 ∷ 109 ∷ 97 ∷ 108 ∷ 32 ∷ 111 ∷ 98 ∷ 106 ∷ 101 ∷ 99 ∷ 116 ∷ [])
     -- 10: no item
@@ -41,14 +41,22 @@ words =
     ∷ (115 ∷ 112 ∷ 97 ∷ 99 ∷ 101 ∷ 32 ∷ 116 ∷ 111 ∷ 111 ∷ 32 ∷ 115 ∷ 109 ∷ 97 ∷ 108 ∷ 108 ∷ [])
     -- 14: last serial number
     ∷ (108 ∷ 97 ∷ 115 ∷ 116 ∷ 32 ∷ 115 ∷ 101 ∷ 114 ∷ 105 ∷ 97 ∷ 108 ∷ 32 ∷ 110 ∷ 117 ∷ 109 ∷ 98 ∷ 101 ∷ 114 ∷ [])
+    -- 15 to 20: none
+    ∷ [] ∷ [] ∷ [] ∷ [] ∷ [] ∷ []
+    -- 21: kinds 6 and 14 together
+    ∷ (107 ∷ 105 ∷ 110 ∷ 100 ∷ 115 ∷ 32 ∷ 54 ∷ 32 ∷ 97 ∷ 110 ∷ 100 ∷ 32 ∷ 49 ∷ 52 ∷ 32
+    ∷ 116 ∷ 111 ∷ 103 ∷ 101 ∷ 116 ∷ 104 ∷ 101 ∷ 114 ∷ [])
     ∷ []
 
 abbrev pub wordsOf : ℕ → List ℕ
 wordsOf n = getD words n []
 
+unfoldable pub hasWords : ℕ → Bool
+hasWords n = ltb 0 (length (wordsOf n))
+
 -- the words printed, where the number is that of a refusal
 unfoldable pub wordsPrinted : ℕ → List ℕ → Printed
-wordsPrinted n out = elim (ltb 0 n && ltb n 15) [ true ↦ printed (wordsOf n) out | false ↦ NotFit ]
+wordsPrinted n out = elim (hasWords n) [ true ↦ printed (wordsOf n) out | false ↦ NotFit ]
 
 unfoldable pub wordsAfter : ℕ → List ℕ → List ℕ
-wordsAfter n out = elim (ltb 0 n && ltb n 15) [ true ↦ after (wordsOf n) out | false ↦ out ]
+wordsAfter n out = elim (hasWords n) [ true ↦ after (wordsOf n) out | false ↦ out ]

@@ -143,13 +143,13 @@ fn print_words(number: u32, out: &mut [u8]) -> Printed
         5 => printout::print_text(b"field out of range", out),
         6 => printout::print_text(b"declared already", out),
         7 => printout::print_text(b"not declared", out),
-        8 => printout::print_text(b"removal without a match", out),
         9 => printout::print_text(b"cycle in a maximal object", out),
         10 => printout::print_text(b"no item", out),
         11 => printout::print_text(b"operator not allowed", out),
         12 => printout::print_text(b"no connection", out),
         13 => printout::print_text(b"space too small", out),
         14 => printout::print_text(b"last serial number", out),
+        21 => printout::print_text(b"kinds 6 and 14 together", out),
         _ => Printed::NotFit,
     }
 }

@@ -2,27 +2,28 @@
 -- first condition that holds.
 -- In order: each kind, the first, the numbers of faults, kinds of a query.
 -- Assumes nothing.
-use mathlib.Core.Path.{_≡_, refl}
+use mathlib.Core.Path.{ap, _≡_, refl}
 use mathlib.Core.Bool.{false}
 use mathlib.Core.Logic.{_⊎_, inl, inr}
 use Prim.Native.Nat.{ℕ, _≤_}
 use native.Mathlib.Omega.{arith}
-use borrow.Author.Tests.{leb-true, le-leb}
-use lib.Dec.{leb}
+use borrow.Author.Tests.{eqb-true, not-false}
+use lib.Dec.{eqb}
 use lib.ListN.{length}
 use Rattle.sets.proofs.Tests.{yes-no, not-yes, and-yes, yes-and}
 use Rattle.records.specs.Checks.{firstOf, First}
-use Rattle.records.specs.Records.{isKind, kindOf}
+use Rattle.records.specs.Records.{kinds, whose, isKind, ofQuery, kindOf}
 use Rattle.records.specs.Walking.{Sound}
 use Rattle.records.specs.declared.Record.{Record}
-use Rattle.records.specs.declared.Record.the-variants.{Attribute, Object, Dependency, Row, Declared, Removed, Item}
+use Rattle.records.specs.declared.Record.the-variants.{Attribute, Object, Dependency, Row, Declared, Removed}
+use Rattle.records.specs.declared.Record.the-variants.{OnlyDeclared, Item}
 use Rattle.records.specs.declared.Record.the-variants.{CompareTwo, CompareConstant, End}
 use Rattle.records.proofs.Checks.{EachNumber, first-number, Agree, ended, next, first-agrees, first-unique, same-always}
 use Rattle.records.proofs.Checks.{same-not, same-or}
 use Rattle.records.proofs.Checks.{same-lt, same-le, same-absent}
 use Rattle.scheme.specs.declared.Scheme.{Scheme}
 use Rattle.query.specs.Asking.{itemsOf, comparisonsOf}
-use Rattle.query.specs.Faults.{ofQuery, checks, faultOf}
+use Rattle.query.specs.Faults.{checks, faultOf}
 use Rattle.query.specs.Conditions.{conditions}
 use Rattle.query.specs.Reading.{queryRules}
 
@@ -37,6 +38,7 @@ agrees s items comparisons (Dependency left right) = next same-always ended
 agrees s items comparisons (Row object c0 c1 c2 c3 c4 c5) = next same-always ended
 agrees s items comparisons (Declared set) = next same-always ended
 agrees s items comparisons (Removed set) = next same-always ended
+agrees s items comparisons OnlyDeclared = next same-always ended
 agrees s items comparisons (Item v a) =
     next (same-le _ _) (next (same-or (same-lt _ _) (same-lt _ _)) (next (same-absent _ _) ended))
 agrees s items comparisons (CompareTwo v a operator v2 a2) =
@@ -79,6 +81,7 @@ numbered s items comparisons (Dependency left right) = (two, tt)
 numbered s items comparisons (Row object c0 c1 c2 c3 c4 c5) = (two, tt)
 numbered s items comparisons (Declared set) = (two, tt)
 numbered s items comparisons (Removed set) = (two, tt)
+numbered s items comparisons OnlyDeclared = (two, tt)
 numbered s items comparisons (Item v a) = (four, (five, (seven, tt)))
 numbered s items comparisons (CompareTwo v a operator v2 a2) = (four, (five, (seven, (eleven, tt))))
 numbered s items comparisons (CompareConstant v a operator cell) = (four, (five, (seven, (eleven, (five, tt)))))
@@ -103,21 +106,19 @@ fault-splits eleven = inr refl
 -- a number that is no kind is none of a query
 no-kind-no-query : (k : ℕ) → isKind k ≡ false → ofQuery k ≡ false
 unfolding isKind ofQuery
-no-kind-no-query k e =
-    not-yes (λ y.
-    let p = yes-and (leb 7 k) (leb k 10) y in
-    yes-no (and-yes (le-leb 1 k (omega (arith, leb-true 7 k (p .0)))) (p .1)) e)
+no-kind-no-query k e = ap (λ (w : ℕ). eqb w 2) (eqb-true (whose k) 0 (not-false (eqb (whose k) 0) e))
 
 -- a record of another kind has the fault 2
 fault-not-of-query : (s : Scheme) (items comparisons : ℕ) (r : Record) → ofQuery (kindOf r) ≡ false
     → faultOf s items comparisons r ≡ 2
-unfolding kindOf ofQuery faultOf checks firstOf
+unfolding kindOf ofQuery whose kinds faultOf checks firstOf
 fault-not-of-query s items comparisons (Attribute id kind) e = refl
 fault-not-of-query s items comparisons (Object number set) e = refl
 fault-not-of-query s items comparisons (Dependency left right) e = refl
 fault-not-of-query s items comparisons (Row object c0 c1 c2 c3 c4 c5) e = refl
 fault-not-of-query s items comparisons (Declared set) e = refl
 fault-not-of-query s items comparisons (Removed set) e = refl
+fault-not-of-query s items comparisons OnlyDeclared e = refl
 fault-not-of-query s items comparisons (Item v a) e = absurd (yes-no refl e)
 fault-not-of-query s items comparisons (CompareTwo v a operator v2 a2) e = absurd (yes-no refl e)
 fault-not-of-query s items comparisons (CompareConstant v a operator cell) e = absurd (yes-no refl e)

@@ -12,7 +12,7 @@ use Rattle.values.specs.Operators.{allows}
 use Rattle.reduction.specs.Kept.{union}
 use Rattle.records.specs.Checks.{firstOf}
 use Rattle.records.specs.Fields.{bytes, value, field}
-use Rattle.records.specs.Records.{isKind, bodyLengths, bodyLength, bytesOf, bytesOfAll}
+use Rattle.records.specs.Records.{kinds, whose, isKind, ofQuery, bodyLength, bytesOf, bytesOfAll}
 use Rattle.records.specs.Reader.{bodies, recordOf, readFront, readAt}
 use Rattle.records.specs.Walking.{shortNumber, walkFrom, walk}
 use Rattle.records.specs.declared.Record.{Record}
@@ -25,7 +25,7 @@ use Rattle.query.specs.declared.Asked.{Asked}
 use Rattle.query.specs.declared.Query.{Query}
 use Rattle.query.specs.Asking.{itemOf, itemsOf, comparisonOf, comparisonsOf, nameOf, namesOf, naming}
 use Rattle.query.specs.Asking.{attributesNamed, filled, askedOf}
-use Rattle.query.specs.Faults.{ofQuery, checks, faultOf}
+use Rattle.query.specs.Faults.{checks, faultOf}
 use Rattle.query.specs.Reading.{isEnd, walkQuery, containing, isNil, unconnected, someUnconnected, wholeNumber}
 use Rattle.query.specs.Reading.{atEnd, read, queryOf}
 
@@ -44,6 +44,7 @@ book = record {
   declarations = 0;
   removed = replicate 8 0;
   removals = 0;
+  only = false;
 }
 
 -- its maximal objects: one of objects 0 and 1, one of object 2
@@ -203,6 +204,6 @@ unfolding trials book maximals good eightOfTwo eightWithConstant eightItems resu
     flatMap queryOf read atEnd wholeNumber someUnconnected unconnected isNil containing walkQuery isEnd faultOf checks
     ofQuery
     askedOf filled attributesNamed naming namesOf nameOf comparisonsOf comparisonOf itemsOf itemOf shortNumber walkFrom
-    walk firstOf readAt readFront recordOf bodies bytesOfAll bytesOf bodyLength bodyLengths isKind field value bytes
+    walk firstOf readAt readFront recordOf bodies bytesOfAll bytesOf bodyLength isKind whose kinds field value bytes
     attributesOf familyOf union allows inRange members isEmpty single _∪_ within has bit
 trials-hold = refl

@@ -18,7 +18,8 @@ use Rattle.records.proofs.Record.{the-type}
 use Rattle.records.proofs.Checks.{first-yes, first-no, first-none, tested-not, tested-absent}
 use Rattle.records.specs.Checks.{firstOf}
 use Rattle.records.specs.declared.Record.{Record}
-use Rattle.records.specs.declared.Record.the-variants.{Attribute, Object, Dependency, Row, Declared, Removed, Item}
+use Rattle.records.specs.declared.Record.the-variants.{Attribute, Object, Dependency, Row, Declared, Removed}
+use Rattle.records.specs.declared.Record.the-variants.{OnlyDeclared, Item}
 use Rattle.records.specs.declared.Record.the-variants.{CompareTwo, CompareConstant, End}
 use Rattle.scheme.specs.declared.Scheme.{Scheme}
 use Rattle.query.specs.Faults.{kindIn, checks, faultOf}
@@ -187,7 +188,7 @@ unfolding faultOf checks firstOf
 end-right s items comparisons = refl
 
 pub not-of-a-query : (s : Scheme) (items comparisons : ℕ) (r : Record)
-    → OneOf (0 ∷ 1 ∷ 2 ∷ 3 ∷ 4 ∷ 5 ∷ []) (tagOf the-type r) → 2 ≡ faultOf s items comparisons r
+    → OneOf (0 ∷ 1 ∷ 2 ∷ 3 ∷ 4 ∷ 5 ∷ 6 ∷ []) (tagOf the-type r) → 2 ≡ faultOf s items comparisons r
 unfolding faultOf checks firstOf
 not-of-a-query s items comparisons (Attribute id kind) h = refl
 not-of-a-query s items comparisons (Object number set) h = refl
@@ -195,9 +196,10 @@ not-of-a-query s items comparisons (Dependency left right) h = refl
 not-of-a-query s items comparisons (Row object c0 c1 c2 c3 c4 c5) h = refl
 not-of-a-query s items comparisons (Declared set) h = refl
 not-of-a-query s items comparisons (Removed set) h = refl
-not-of-a-query s items comparisons (Item v a) h = absurd (miss (0 ∷ 1 ∷ 2 ∷ 3 ∷ 4 ∷ 5 ∷ []) 6 tt h)
+not-of-a-query s items comparisons OnlyDeclared h = refl
+not-of-a-query s items comparisons (Item v a) h = absurd (miss (0 ∷ 1 ∷ 2 ∷ 3 ∷ 4 ∷ 5 ∷ 6 ∷ []) 7 tt h)
 not-of-a-query s items comparisons (CompareTwo v a operator v2 a2) h =
-    absurd (miss (0 ∷ 1 ∷ 2 ∷ 3 ∷ 4 ∷ 5 ∷ []) 7 tt h)
+    absurd (miss (0 ∷ 1 ∷ 2 ∷ 3 ∷ 4 ∷ 5 ∷ 6 ∷ []) 8 tt h)
 not-of-a-query s items comparisons (CompareConstant v a operator cell) h =
-    absurd (miss (0 ∷ 1 ∷ 2 ∷ 3 ∷ 4 ∷ 5 ∷ []) 8 tt h)
-not-of-a-query s items comparisons End h = absurd (miss (0 ∷ 1 ∷ 2 ∷ 3 ∷ 4 ∷ 5 ∷ []) 9 tt h)
+    absurd (miss (0 ∷ 1 ∷ 2 ∷ 3 ∷ 4 ∷ 5 ∷ 6 ∷ []) 9 tt h)
+not-of-a-query s items comparisons End h = absurd (miss (0 ∷ 1 ∷ 2 ∷ 3 ∷ 4 ∷ 5 ∷ 6 ∷ []) 10 tt h)

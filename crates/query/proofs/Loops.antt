@@ -16,6 +16,7 @@ use Rattle.sets.specs.Sets.{within, isEmpty}
 use Rattle.sets.proofs.Tests.{and-yes}
 use Rattle.records.proofs.Reading.{the-type}
 use Rattle.records.specs.Reader.{readAt}
+use Rattle.records.specs.Records.{ofQuery}
 use Rattle.records.specs.Walking as Walks
 use Rattle.records.specs.Walking.{Stop, shortNumber}
 use Rattle.records.proofs.Walking.{accepted-inside, stops-nothing, stops-unknown, stops-short, stops-last, stops-faulty}
@@ -29,7 +30,7 @@ use Rattle.query.specs.declared.Asked.{Asked}
 use Rattle.query.specs.declared.Walked.{Walked}
 use Rattle.query.specs.declared.Query.{Query}
 use Rattle.query.specs.Asking.{itemsOf, comparisonsOf, askedOf, nothingAsked, withRecord}
-use Rattle.query.specs.Faults.{ofQuery, faultOf}
+use Rattle.query.specs.Faults.{faultOf}
 use Rattle.query.specs.Reading.{isEnd, queryRules, walkQuery, stopNumber, walkedOf, containing, isNil}
 use Rattle.query.specs.Reading.{unconnected}
 use Rattle.query.specs.Reading.{someUnconnected, wholeNumber, read, queryOf}
@@ -38,18 +39,13 @@ use Rattle.query.proofs.Outcomes.{after-fault, after-end, end-fault, en
 
 -- ---- numbers where no whole record stands
 
-pub short-yes : (k : ℕ) → 7 ≤ k → k ≤ 10 → 3 ≡ shortNumber ofQuery k
-unfolding shortNumber ofQuery
-short-yes k h l = ap (λ (b : Bool). elim b [ true ↦ 3 | false ↦ 2 ]) (sym (and-yes (le-leb 7 k h) (le-leb k 10 l)))
+pub short-yes : (k : ℕ) → ofQuery k ≡ true → 3 ≡ shortNumber ofQuery k
+unfolding shortNumber
+short-yes k y = ap (λ (b : Bool). elim b [ true ↦ 3 | false ↦ 2 ]) (sym y)
 
-pub short-low : (k : ℕ) → k < 7 → 2 ≡ shortNumber ofQuery k
-unfolding shortNumber ofQuery
-short-low k h = ap (λ (b : Bool). elim (b && leb k 10) [ true ↦ 3 | false ↦ 2 ]) (sym (lt-leb 7 k h))
-
-pub short-high : (k : ℕ) → 7 ≤ k → 10 < k → 2 ≡ shortNumber ofQuery k
-unfolding shortNumber ofQuery
-short-high k h l =
-    ap₂ (λ (b c : Bool). elim (b && c) [ true ↦ 3 | false ↦ 2 ]) (sym (le-leb 7 k h)) (sym (lt-leb k 10 l))
+pub short-no : (k : ℕ) → ofQuery k ≡ false → 2 ≡ shortNumber ofQuery k
+unfolding shortNumber
+short-no k n = ap (λ (b : Bool). elim b [ true ↦ 3 | false ↦ 2 ]) (sym n)
 
 -- ---- the walk over the records
 

@@ -8,6 +8,7 @@ use Prim.Native.Nat.{ℕ, _≤_}
 use lib.ListN.{length}
 use Rattle.sets.specs.Sets.{_∈_, _⊆_}
 use Rattle.records.specs.Reader.{readAt}
+use Rattle.records.specs.Records.{ofQuery}
 use Rattle.records.specs.Walking as Walking
 use Rattle.records.specs.declared.Record.{Record}
 use Rattle.records.specs.declared.Record.the-variants.{Item, CompareTwo, CompareConstant, End}
@@ -15,7 +16,7 @@ use Rattle.records.specs.declared.Reading.the-variants.{Found}
 use Rattle.scheme.specs.declared.Scheme.{Scheme}
 use Rattle.scheme.specs.Growing.{attributesOf}
 use Rattle.query.specs.Asking.{itemsOf, comparisonsOf}
-use Rattle.query.specs.Faults.{ofQuery, faultOf}
+use Rattle.query.specs.Faults.{faultOf}
 use Rattle.query.specs.Reading.{queryRules, Outcome, refusedWith}
 
 -- ---- names

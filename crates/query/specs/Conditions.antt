@@ -11,7 +11,8 @@ use Rattle.values.specs.Values.{inRange}
 use Rattle.values.specs.Operators.{allows}
 use Rattle.records.specs.Checks.{Condition, _gives_}
 use Rattle.records.specs.declared.Record.{Record}
-use Rattle.records.specs.declared.Record.the-variants.{Attribute, Object, Dependency, Row, Declared, Removed, Item}
+use Rattle.records.specs.declared.Record.the-variants.{Attribute, Object, Dependency, Row, Declared, Removed}
+use Rattle.records.specs.declared.Record.the-variants.{OnlyDeclared, Item}
 use Rattle.records.specs.declared.Record.the-variants.{CompareTwo, CompareConstant, End}
 use Rattle.scheme.specs.declared.Scheme.{Scheme}
 use Rattle.query.specs.Faults.{kindIn}
@@ -27,6 +28,7 @@ conditions s items comparisons (Dependency left right) = (Unit {0} gives 2) ∷ 
 conditions s items comparisons (Row object c0 c1 c2 c3 c4 c5) = (Unit {0} gives 2) ∷ []
 conditions s items comparisons (Declared set) = (Unit {0} gives 2) ∷ []
 conditions s items comparisons (Removed set) = (Unit {0} gives 2) ∷ []
+conditions s items comparisons OnlyDeclared = (Unit {0} gives 2) ∷ []
 conditions s items comparisons (Item v a) =
     (8 ≤ items gives 4)
     ∷ ((3 < v) ⊎ (31 < a) gives 5)

@@ -1,6 +1,6 @@
 -- What is wrong with a record of a query: "Answering a query" of the paper. The checks of each kind stand in the
 -- paper's order, each with the number that it gives; the first that holds is the fault.
--- In order: kinds of a query, the checks of a record, its fault. Not here: a body that is cut short (`Reading`).
+-- In order: the checks of a record, its fault. Not here: a body that is cut short (`Reading`).
 -- Assumes nothing.
 use mathlib.Core.Bool.{Bool, true, not, _&&_, _||_}
 use mathlib.Core.List.{List, [], _∷_}
@@ -12,13 +12,10 @@ use Rattle.values.specs.Values.{inRange}
 use Rattle.values.specs.Operators.{allows}
 use Rattle.records.specs.Checks.{firstOf}
 use Rattle.records.specs.declared.Record.{Record}
-use Rattle.records.specs.declared.Record.the-variants.{Attribute, Object, Dependency, Row, Declared, Removed, Item}
+use Rattle.records.specs.declared.Record.the-variants.{Attribute, Object, Dependency, Row, Declared, Removed}
+use Rattle.records.specs.declared.Record.the-variants.{OnlyDeclared, Item}
 use Rattle.records.specs.declared.Record.the-variants.{CompareTwo, CompareConstant, End}
 use Rattle.scheme.specs.declared.Scheme.{Scheme}
-
--- "a query 7 to 10"
-unfoldable pub ofQuery : ℕ → Bool
-ofQuery k = leb 7 k && leb k 10
 
 -- the value kind of an attribute
 abbrev pub kindIn : Scheme → ℕ → ℕ
@@ -34,6 +31,7 @@ checks s items comparisons (Dependency left right) = (true, 2) ∷ []
 checks s items comparisons (Row object c0 c1 c2 c3 c4 c5) = (true, 2) ∷ []
 checks s items comparisons (Declared set) = (true, 2) ∷ []
 checks s items comparisons (Removed set) = (true, 2) ∷ []
+checks s items comparisons OnlyDeclared = (true, 2) ∷ []
 checks s items comparisons (Item v a) =
     (leb 8 items, 4)
     ∷ (ltb 3 v || ltb 31 a, 5)

@@ -9,9 +9,11 @@ use Prim.Native.Nat.{ℕ}
 use lib.Dec.{eqb, ltb}
 use lib.ListN.{length}
 use Rattle.sets.specs.Sets.{within, isEmpty}
+use Rattle.records.specs.Records.{ofQuery}
 use Rattle.records.specs.Walking.{Rules, Stop, shortNumber, walk}
 use Rattle.records.specs.declared.Record.{Record}
-use Rattle.records.specs.declared.Record.the-variants.{Attribute, Object, Dependency, Row, Declared, Removed, Item}
+use Rattle.records.specs.declared.Record.the-variants.{Attribute, Object, Dependency, Row, Declared, Removed}
+use Rattle.records.specs.declared.Record.the-variants.{OnlyDeclared, Item}
 use Rattle.records.specs.declared.Record.the-variants.{CompareTwo, CompareConstant, End}
 use Rattle.records.specs.declared.Reading.{Reading}
 use Rattle.records.specs.declared.Reading.the-variants.{Nothing, Unknown, Short, Found}
@@ -21,7 +23,7 @@ use Rattle.query.specs.declared.Asked.{Asked}
 use Rattle.query.specs.declared.Walked.{Walked}
 use Rattle.query.specs.declared.Query.{Query}
 use Rattle.query.specs.Asking.{itemsOf, comparisonsOf, askedOf}
-use Rattle.query.specs.Faults.{ofQuery, faultOf}
+use Rattle.query.specs.Faults.{faultOf}
 
 -- ---- reading record after record
 
@@ -33,6 +35,7 @@ isEnd (Dependency left right) = false
 isEnd (Row object c0 c1 c2 c3 c4 c5) = false
 isEnd (Declared set) = false
 isEnd (Removed set) = false
+isEnd OnlyDeclared = false
 isEnd (Item v a) = false
 isEnd (CompareTwo v a operator v2 a2) = false
 isEnd (CompareConstant v a operator cell) = false

@@ -3,9 +3,10 @@ ghost use mathlib.Core.Path.{_≡_};
 ghost use Prim.Native.Nat.{_<_, _≤_};
 ghost use lib.ListN.{length};
 ghost use mathlib.Core.Bool.{not};
+ghost use Rattle.records.specs.Records.{ofQuery};
 ghost use Rattle.records.specs.Walking.{shortNumber};
 ghost use Rattle.query.specs.Asking.{nothingAsked, withName, withItem, withComparison, withRecord};
-ghost use Rattle.query.specs.Faults.{ofQuery, faultOf};
+ghost use Rattle.query.specs.Faults.{faultOf};
 ghost use Rattle.query.specs.Reading.{isEnd, stopNumber, walkQuery, walkedOf, containing, isNil, someUnconnected};
 ghost use Rattle.query.specs.Reading.{wholeNumber, read, queryOf};
 use records::Reading;
@@ -331,7 +332,7 @@ fn is_end(r: Record) -> bool
 fn short_fault(kind: u8) -> u8
     ensures { λ r. ⌜ r ≡ shortNumber ofQuery kind ⌝ }
 {
-    if 7 <= kind && kind <= 10 { 3 } else { 2 }
+    if records::of_query(kind) { 3 } else { 2 }
 }
 
 // The number where no whole record stands.

@@ -6,10 +6,11 @@ use mathlib.Core.List.{List, [], _∷_, map}
 use Prim.Native.Nat.{ℕ}
 use lib.ListN.{length}
 use Rattle.records.specs.Fields.{bytes, value, field}
-use Rattle.records.specs.Records.{isKind, bodyLengths, bodyLength, bytesOf}
+use Rattle.records.specs.Records.{kinds, whose, isKind, bodyLength, bytesOf}
 use Rattle.records.specs.Reader.{bodies, recordOf, readFront, readAt}
 use Rattle.records.specs.declared.Record.{Record}
 use Rattle.records.specs.declared.Record.the-variants.{Attribute, Object, Dependency, Row, Declared, Removed}
+use Rattle.records.specs.declared.Record.the-variants.{OnlyDeclared}
 use Rattle.records.specs.declared.Record.the-variants.{Item, CompareTwo, CompareConstant, End}
 use Rattle.records.specs.declared.Reading.the-variants.{Found}
 
@@ -40,6 +41,8 @@ examples =
     ∷ record { content = Declared 67305985; says = 5 ∷ 1 ∷ 2 ∷ 3 ∷ 4 ∷ [] }
     -- "computed maximal object to be removed"
     ∷ record { content = Removed 134678021; says = 6 ∷ 5 ∷ 6 ∷ 7 ∷ 8 ∷ [] }
+    -- request 8: "only declared maximal objects count"
+    ∷ record { content = OnlyDeclared; says = 14 ∷ [] }
     -- "variable, attribute"
     ∷ record { content = Item 2 12; says = 7 ∷ 2 ∷ 12 ∷ [] }
     -- "variable, attribute, operator, variable, attribute"
@@ -56,5 +59,5 @@ examples-written = refl
 
 -- Each is found, with the position after its last byte.
 pub examples-read : map (λ e. readAt (e .says) 0) examples ≡ map (λ e. Found (e .content) (length (e .says))) examples
-unfolding examples readAt readFront recordOf bodies isKind bodyLength bodyLengths field value
+unfolding examples readAt readFront recordOf bodies isKind bodyLength whose kinds field value
 examples-read = refl

@@ -23,7 +23,7 @@ use Rattle.records.specs.declared.Record.{Record}
 use Rattle.records.specs.declared.Reading.{Reading}
 use Rattle.records.specs.declared.Reading.the-variants.{Nothing, Unknown, Short, Found}
 use Rattle.records.proofs.Fields.{bytes-drop}
-use Rattle.records.proofs.Records.{shape, isKind-range, length-bytesOf}
+use Rattle.records.proofs.Records.{shape, length-bytesOf}
 use Rattle.records.proofs.Records.{recordOf-written, bytesOf-recordOf, kindOf-recordOf, inWidth-recordOf}
 
 -- ---- an answer from the bytes
@@ -134,8 +134,8 @@ pub finds-unknown : (s : List ℕ) (at : ℕ) (b : Bool) → at < length s → b
     → Unknown ≡ readAt s at
 finds-unknown s at b h e f = sym (readAt-unknown s at (record { within = h; kind = sym e ∙ not-true b f }))
 
-pub finds-kind : (k : ℕ) (b : Bool) → b ≡ isKind k → not b ≡ false → (1 ≤ k) × (k ≤ 10)
-finds-kind k b e f = isKind-range k (sym e ∙ not-false b f)
+pub finds-kind : (k : ℕ) (b : Bool) → b ≡ isKind k → not b ≡ false → isKind k ≡ true
+finds-kind k b e f = sym e ∙ not-false b f
 
 module _ (s : List ℕ) (at n : ℕ) (b : Bool) (inside : at < length s) (size : n ≡ bodyLength (getD s at 0))
     (kind : b ≡ isKind (getD s at 0)) (known : not b ≡ false) where

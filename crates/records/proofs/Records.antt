@@ -3,52 +3,103 @@
 -- record at its place.
 -- Assumes nothing.
 use mathlib.Core.Path.{_≡_, refl, sym, ap, _∙_}
-use mathlib.Core.Bool.{true, and-eq-true-iff, false≢true}
+use mathlib.Core.Bool.{true, false, not, false≢true}
+use mathlib.Core.Logic.{_⊎_, inl, inr}
 use mathlib.Core.List.{List, _∷_, _++_}
-use Prim.Native.Nat.{ℕ, zero, suc, _+_, _≤_, _<_}
+use Prim.Native.Nat.{ℕ, zero, suc, _+_, _*_, _≤_, _<_}
 use native.Mathlib.Nat.{add-zero}
 use native.Mathlib.Omega.{arith}
-use borrow.Author.Tests.{leb-true}
-use lib.Dec.{leb}
+use borrow.Author.Tests.{leb-true, eqb-true}
+use lib.Dec.{eqb, leb}
 use lib.ListN.{length, take, drop, List·getD-eq-default}
 use lib.Seq.{take-add}
+use Rattle.sets.proofs.Numbers.{lt-or-le, each-below}
 use Rattle.records.specs.Fields.{AreBytes, bytes, field}
-use Rattle.records.specs.Records.{isKind, bodyLengths, bodyLength, kindOf, bytesOf, Small, Wide, InWidth}
+use Rattle.records.specs.Records.{kinds, whose, isKind, ofBook, ofQuery, bodyLength, kindOf, bytesOf}
+use Rattle.records.specs.Records.{Small, Wide, InWidth}
 use Rattle.records.specs.Reader.{bodies, recordOf}
 use Rattle.records.specs.declared.Record.{Record}
 use Rattle.records.specs.declared.Record.the-variants.{Attribute, Object, Dependency, Row, Declared, Removed}
+use Rattle.records.specs.declared.Record.the-variants.{OnlyDeclared}
 use Rattle.records.specs.declared.Record.the-variants.{Item, CompareTwo, CompareConstant, End}
 use Rattle.records.proofs.Fields.{value-bytes, bytes-field, field-drop, field-below}
 
 -- ---- kinds
 
-pub isKind-range : (k : ℕ) → isKind k ≡ true → (1 ≤ k) × (k ≤ 10)
-unfolding isKind
-isKind-range k e =
-    let both : (leb 1 k ≡ true) × (leb k 10 ≡ true) = and-eq-true-iff (leb 1 k) (leb k 10) .0 e in
-    (leb-true 1 k (both .0), leb-true k 10 (both .1))
+-- past the table there is none
+pub whose-past : (k : ℕ) → 15 ≤ k → whose k ≡ 0
+unfolding whose kinds
+whose-past k h = let past : 30 ≤ k * 2 = omega (arith, h) in List·getD-eq-default kinds 0 past
 
--- What holds of each of the ten kinds holds of every kind.
-pub by-kind : (P : ℕ → Type 0) → P 1 → P 2 → P 3 → P 4 → P 5 → P 6 → P 7 → P 8 → P 9 → P 10
+pub bodyLength-past : (k : ℕ) → 15 ≤ k → bodyLength k ≡ 0
+unfolding bodyLength kinds
+bodyLength-past k h = let past : 30 ≤ k * 2 + 1 = omega (arith, h) in List·getD-eq-default kinds 0 past
+
+no-kind-past : (k : ℕ) → 15 ≤ k → isKind k ≡ false
+unfolding isKind
+no-kind-past k h = ap (λ (w : ℕ). not (eqb w 0)) (whose-past k h)
+
+-- What holds of each kind of the table holds of every kind.
+pub by-kind : (P : ℕ → Type 0) → P 1 → P 2 → P 3 → P 4 → P 5 → P 6 → P 7 → P 8 → P 9 → P 10 → P 14
     → (k : ℕ) → isKind k ≡ true → P k
-unfolding isKind
-by-kind P a b c d e f g h i j zero kind = absurd (false≢true kind)
-by-kind P a b c d e f g h i j (suc zero) kind = a
-by-kind P a b c d e f g h i j (suc (suc zero)) kind = b
-by-kind P a b c d e f g h i j (suc (suc (suc zero))) kind = c
-by-kind P a b c d e f g h i j (suc (suc (suc (suc zero)))) kind = d
-by-kind P a b c d e f g h i j (suc (suc (suc (suc (suc zero))))) kind = e
-by-kind P a b c d e f g h i j (suc (suc (suc (suc (suc (suc zero)))))) kind = f
-by-kind P a b c d e f g h i j (suc (suc (suc (suc (suc (suc (suc zero))))))) kind = g
-by-kind P a b c d e f g h i j (suc (suc (suc (suc (suc (suc (suc (suc zero)))))))) kind = h
-by-kind P a b c d e f g h i j (suc (suc (suc (suc (suc (suc (suc (suc (suc zero))))))))) kind = i
-by-kind P a b c d e f g h i j (suc (suc (suc (suc (suc (suc (suc (suc (suc (suc zero)))))))))) kind = j
-by-kind P a b c d e f g h i j (suc (suc (suc (suc (suc (suc (suc (suc (suc (suc (suc k))))))))))) kind =
-    absurd (omega (arith, isKind-range (suc (suc (suc (suc (suc (suc (suc (suc (suc (suc (suc k))))))))))) kind))
+unfolding isKind whose kinds
+by-kind P a b c d e f g h i j l k kind = choose (lt-or-le k 15)
+  where
+    choose : (k < 15) ⊎ (15 ≤ k) → P k
+    choose (inr past) = absurd (false≢true (sym (no-kind-past k past) ∙ kind))
+    choose (inl below) =
+        each-below (λ k. isKind k ≡ true → P k) 15
+        ((λ y. absurd (false≢true y)), ((λ y. a), ((λ y. b), ((λ y. c), ((λ y. d), ((λ y. e), ((λ y. f),
+        ((λ y. g), ((λ y. h), ((λ y. i), ((λ y. j), ((λ y. absurd (false≢true y)),
+        ((λ y. absurd (false≢true y)), ((λ y. absurd (false≢true y)), ((λ y. l), tt)))))))))))))))
+        k below kind
 
-pub bodyLength-past : (k : ℕ) → 10 < k → bodyLength k ≡ 0
-unfolding bodyLength bodyLengths
-bodyLength-past k h = List·getD-eq-default bodyLengths 0 h
+-- a kind of a book, and of a query
+pub book-kind : (k : ℕ) → ofBook k ≡ true → isKind k ≡ true
+unfolding ofBook isKind
+book-kind k y = ap (λ (w : ℕ). not (eqb w 0)) (eqb-true (whose k) 1 y)
+
+pub query-kind : (k : ℕ) → ofQuery k ≡ true → isKind k ≡ true
+unfolding ofQuery isKind
+query-kind k y = ap (λ (w : ℕ). not (eqb w 0)) (eqb-true (whose k) 2 y)
+
+pub by-book : (P : ℕ → Type 0) → P 1 → P 2 → P 3 → P 4 → P 5 → P 6 → P 14 → (k : ℕ) → ofBook k ≡ true → P k
+unfolding ofBook whose kinds
+by-book P a b c d e f l k y =
+    by-kind (λ k. ofBook k ≡ true → P k) (λ y. a) (λ y. b) (λ y. c) (λ y. d) (λ y. e) (λ y. f)
+    (λ y. absurd (false≢true y)) (λ y. absurd (false≢true y)) (λ y. absurd (false≢true y)) (λ y. absurd (false≢true y))
+    (λ y. l) k (book-kind k y) y
+
+pub by-query : (P : ℕ → Type 0) → P 7 → P 8 → P 9 → P 10 → (k : ℕ) → ofQuery k ≡ true → P k
+unfolding ofQuery whose kinds
+by-query P a b c d k y =
+    by-kind (λ k. ofQuery k ≡ true → P k) (λ y. absurd (false≢true y)) (λ y. absurd (false≢true y))
+    (λ y. absurd (false≢true y)) (λ y. absurd (false≢true y)) (λ y. absurd (false≢true y)) (λ y. absurd (false≢true y))
+    (λ y. a) (λ y. b) (λ y. c) (λ y. d) (λ y. absurd (false≢true y)) k (query-kind k y) y
+
+-- a kind that is none of a book's is a query's
+pub other-kind : (k : ℕ) → isKind k ≡ true → ofBook k ≡ false → ofQuery k ≡ true
+unfolding ofBook ofQuery whose kinds
+other-kind =
+    by-kind (λ k. ofBook k ≡ false → ofQuery k ≡ true) (λ n. absurd (false≢true (sym n)))
+    (λ n. absurd (false≢true (sym n))) (λ n. absurd (false≢true (sym n)))
+    (λ n. absurd (false≢true (sym n))) (λ n. absurd (false≢true (sym n)))
+    (λ n. absurd (false≢true (sym n))) (λ n. refl) (λ n. refl) (λ n. refl) (λ n. refl)
+    (λ n. absurd (false≢true (sym n)))
+
+-- the last kind of a book in the order of the code
+pub last-of-book : (k : ℕ) → ofBook k ≡ true → (k ≡ 1 → ⊥) → (k ≡ 2 → ⊥) → (k ≡ 3 → ⊥) → (k ≡ 4 → ⊥) → (k ≡ 5 → ⊥)
+    → (k ≡ 6 → ⊥) → k ≡ 14
+last-of-book =
+    by-book (λ k. (k ≡ 1 → ⊥) → (k ≡ 2 → ⊥) → (k ≡ 3 → ⊥) → (k ≡ 4 → ⊥) → (k ≡ 5 → ⊥) → (k ≡ 6 → ⊥) → k ≡ 14)
+    (λ a b c d e f. absurd (a refl)) (λ a b c d e f. absurd (b refl)) (λ a b c d e f. absurd (c refl))
+    (λ a b c d e f. absurd (d refl)) (λ a b c d e f. absurd (e refl)) (λ a b c d e f. absurd (f refl))
+    (λ a b c d e f. refl)
+
+pub last-of-query : (k : ℕ) → ofQuery k ≡ true → (k ≡ 7 → ⊥) → (k ≡ 8 → ⊥) → (k ≡ 9 → ⊥) → k ≡ 10
+last-of-query =
+    by-query (λ k. (k ≡ 7 → ⊥) → (k ≡ 8 → ⊥) → (k ≡ 9 → ⊥) → k ≡ 10) (λ a b c. absurd (a refl))
+    (λ a b c. absurd (b refl)) (λ a b c. absurd (c refl)) (λ a b c. refl)
 
 -- ---- a record's kind byte and body
 
@@ -59,13 +110,14 @@ pub record Shape (r : Record) : Type 0 where
   pub body : length (drop 1 (bytesOf r)) ≡ bodyLength (kindOf r)
 
 pub shape : (r : Record) → Shape r
-unfolding isKind bodyLength bodyLengths kindOf bytesOf bytes
+unfolding isKind bodyLength whose kinds kindOf bytesOf bytes
 shape (Attribute id kind) = record { kind = refl; split = refl; body = refl }
 shape (Object number set) = record { kind = refl; split = refl; body = refl }
 shape (Dependency left right) = record { kind = refl; split = refl; body = refl }
 shape (Row object c0 c1 c2 c3 c4 c5) = record { kind = refl; split = refl; body = refl }
 shape (Declared set) = record { kind = refl; split = refl; body = refl }
 shape (Removed set) = record { kind = refl; split = refl; body = refl }
+shape OnlyDeclared = record { kind = refl; split = refl; body = refl }
 shape (Item variable attribute) = record { kind = refl; split = refl; body = refl }
 shape (CompareTwo variable attribute operator variable2 attribute2) = record { kind = refl; split = refl; body = refl }
 shape (CompareConstant variable attribute operator cell) = record { kind = refl; split = refl; body = refl }
@@ -94,6 +146,7 @@ recordOf-written (Row object c0 c1 c2 c3 c4 c5) q h =
     (value-bytes 4 c5 (h .6) i)
 recordOf-written (Declared set) q h = λ i. Declared (value-bytes 4 set h i)
 recordOf-written (Removed set) q h = λ i. Removed (value-bytes 4 set h i)
+recordOf-written OnlyDeclared q h = refl
 recordOf-written (Item variable attribute) q h =
     λ i. Item (value-bytes 1 variable (h .0) i) (value-bytes 1 attribute (h .1) i)
 recordOf-written (CompareTwo variable attribute operator variable2 attribute2) q h =
@@ -123,7 +176,7 @@ module _ (b : List ℕ) {n : ℕ} (given : AreBytes b) (fits : n ≤ length b) w
 -- A body as long as its kind says is written as it stood.
 pub bytesOf-recordOf : (b : List ℕ) (k : ℕ) → AreBytes b → isKind k ≡ true → bodyLength k ≤ length b
     → bytesOf (recordOf k b) ≡ k ∷ take (bodyLength k) b
-unfolding recordOf bodies bytesOf bodyLength bodyLengths
+unfolding recordOf bodies bytesOf bodyLength kinds
 bytesOf-recordOf b k given =
     by-kind (λ k. bodyLength k ≤ length b → bytesOf (recordOf k b) ≡ k ∷ take (bodyLength k) b)
     (λ fits. simp (first-field b given fits, next-field b given fits))
@@ -136,11 +189,12 @@ bytesOf-recordOf b k given =
     (λ fits. simp (first-field b given fits, next-field b given fits))
     (λ fits. simp (first-field b given fits, next-field b given fits))
     (λ fits. refl)
+    (λ fits. refl)
     k
 
 pub kindOf-recordOf : (b : List ℕ) (k : ℕ) → isKind k ≡ true → kindOf (recordOf k b) ≡ k
 unfolding recordOf bodies kindOf
-kindOf-recordOf b = by-kind (λ k. kindOf (recordOf k b) ≡ k) refl refl refl refl refl refl refl refl refl refl
+kindOf-recordOf b = by-kind (λ k. kindOf (recordOf k b) ≡ k) refl refl refl refl refl refl refl refl refl refl refl
 
 -- A body of bytes gives fields that fit.
 pub inWidth-recordOf : (b : List ℕ) (k : ℕ) → AreBytes b → isKind k ≡ true → InWidth (recordOf k b)
@@ -158,6 +212,7 @@ inWidth-recordOf b k given =
     (small 0, small 1)
     (small 0, small 1, small 2, small 3, small 4)
     (small 0, small 1, small 2, wide 3)
+    tt
     tt
     k
 
@@ -195,6 +250,10 @@ pub removed-at : (s : List ℕ) (k b set : ℕ) → k ≡ 6
     → set ≡ field 4 s b → Removed set ≡ recordOf k (drop b s)
 unfolding recordOf bodies
 removed-at s k b set e e0 = simp (e, e0, field-drop, add-zero)
+
+pub onlyDeclared-at : (s : List ℕ) (k b : ℕ) → k ≡ 14 → OnlyDeclared ≡ recordOf k (drop b s)
+unfolding recordOf bodies
+onlyDeclared-at s k b e = simp e
 
 pub item-at : (s : List ℕ) (k b variable attribute : ℕ) → k ≡ 7
     → variable ≡ field 1 s b → attribute ≡ field 1 s (b + 1) → Item variable attribute ≡ recordOf k (drop b s)

@@ -12,6 +12,7 @@ use Rattle.records.specs.Fields.{field}
 use Rattle.records.specs.Records.{isKind, bodyLength, kindOf}
 use Rattle.records.specs.declared.Record.{Record}
 use Rattle.records.specs.declared.Record.the-variants.{Attribute, Object, Dependency, Row, Declared, Removed}
+use Rattle.records.specs.declared.Record.the-variants.{OnlyDeclared}
 use Rattle.records.specs.declared.Record.the-variants.{Item, CompareTwo, CompareConstant, End}
 use Rattle.records.specs.declared.Reading.{Reading}
 use Rattle.records.specs.declared.Reading.the-variants.{Nothing, Unknown, Short, Found}
@@ -32,6 +33,10 @@ bodies =
     ∷ (λ b. CompareTwo (field 1 b 0) (field 1 b 1) (field 1 b 2) (field 1 b 3) (field 1 b 4))
     ∷ (λ b. CompareConstant (field 1 b 0) (field 1 b 1) (field 1 b 2) (field 4 b 3))
     ∷ (λ b. End)
+    ∷ (λ b. End)  -- 11
+    ∷ (λ b. End)  -- 12
+    ∷ (λ b. End)  -- 13
+    ∷ (λ b. OnlyDeclared)
     ∷ []
 
 -- The record of kind k whose body b starts with.

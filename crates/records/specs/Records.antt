@@ -1,40 +1,54 @@
 -- The records of books and queries, and the bytes that each is: "Records" of the paper, in the order of its table.
--- In order: kinds and body lengths, the bytes of a record and of records, the widths of fields.
--- Not here: which values a field may have, and which kinds a book and a query allow.
+-- In order: the table of kinds, the bytes of a record and of records, the widths of fields.
+-- Not here: which values a field may have.
 -- Assumes nothing.
-use mathlib.Core.Bool.{Bool, _&&_}
+use mathlib.Core.Bool.{Bool, not}
 use mathlib.Core.List.{List, [], _∷_, _++_}
-use Prim.Native.Nat.{ℕ, _^_, _<_}
-use lib.Dec.{leb}
+use Prim.Native.Nat.{ℕ, _+_, _*_, _^_, _<_}
+use lib.Dec.{eqb}
 use lib.ListN.{getD}
 use Rattle.records.specs.Fields.{bytes}
 use Rattle.records.specs.declared.Record.{Record}
 use Rattle.records.specs.declared.Record.the-variants.{Attribute, Object, Dependency, Row, Declared, Removed}
+use Rattle.records.specs.declared.Record.the-variants.{OnlyDeclared}
 use Rattle.records.specs.declared.Record.the-variants.{Item, CompareTwo, CompareConstant, End}
 
--- The kinds of the table are 1 to 10.
-unfoldable pub isKind : ℕ → Bool
-isKind k = leb 1 k && leb k 10
-
--- "a body whose length the kind fixes": the bytes of each kind's body.
-unfoldable pub bodyLengths : List ℕ
-bodyLengths =
-    0  -- no kind
-    ∷ 2  -- 1: id, value kind
-    ∷ 5  -- 2: number, set
-    ∷ 8  -- 3: set, set
-    ∷ 25  -- 4: object, six cells
-    ∷ 4  -- 5: set of objects
-    ∷ 4  -- 6: set of objects
-    ∷ 2  -- 7: variable, attribute
-    ∷ 5  -- 8: variable, attribute, operator, variable, attribute
-    ∷ 7  -- 9: variable, attribute, operator, cell
-    ∷ 0  -- 10: none
+-- The table of kinds, two numbers for each byte from 0 on: whose kind it is (0 no one's, 1 a book's, 2 a query's), and
+-- the bytes of its body: "a body whose length the kind fixes".
+unfoldable pub kinds : List ℕ
+kinds =
+    0 ∷ 0  -- no kind
+    ∷ 1 ∷ 2  -- 1: id, value kind
+    ∷ 1 ∷ 5  -- 2: number, set
+    ∷ 1 ∷ 8  -- 3: set, set
+    ∷ 1 ∷ 25  -- 4: object, six cells
+    ∷ 1 ∷ 4  -- 5: set of objects
+    ∷ 1 ∷ 4  -- 6: set of objects
+    ∷ 2 ∷ 2  -- 7: variable, attribute
+    ∷ 2 ∷ 5  -- 8: variable, attribute, operator, variable, attribute
+    ∷ 2 ∷ 7  -- 9: variable, attribute, operator, cell
+    ∷ 2 ∷ 0  -- 10: none
+    ∷ 0 ∷ 0  -- 11
+    ∷ 0 ∷ 0  -- 12
+    ∷ 0 ∷ 0  -- 13
+    ∷ 1 ∷ 0  -- 14: none
     ∷ []
 
--- The bytes of the body of kind k; 0 for a number that is no kind.
+-- Whose kind k is, and the bytes of its body; 0 for a number that is no kind.
+unfoldable pub whose : ℕ → ℕ
+whose k = getD kinds (k * 2) 0
+
 unfoldable pub bodyLength : ℕ → ℕ
-bodyLength k = getD bodyLengths k 0
+bodyLength k = getD kinds (k * 2 + 1) 0
+
+unfoldable pub ofBook : ℕ → Bool
+ofBook k = eqb (whose k) 1
+
+unfoldable pub ofQuery : ℕ → Bool
+ofQuery k = eqb (whose k) 2
+
+unfoldable pub isKind : ℕ → Bool
+isKind k = not (eqb (whose k) 0)
 
 unfoldable pub kindOf : Record → ℕ
 kindOf (Attribute id kind) = 1
@@ -43,6 +57,7 @@ kindOf (Dependency left right) = 3
 kindOf (Row object c0 c1 c2 c3 c4 c5) = 4
 kindOf (Declared set) = 5
 kindOf (Removed set) = 6
+kindOf OnlyDeclared = 14
 kindOf (Item variable attribute) = 7
 kindOf (CompareTwo variable attribute operator variable2 attribute2) = 8
 kindOf (CompareConstant variable attribute operator cell) = 9
@@ -57,6 +72,7 @@ bytesOf (Row object c0 c1 c2 c3 c4 c5) =
     4 ∷ bytes 1 object ++ bytes 4 c0 ++ bytes 4 c1 ++ bytes 4 c2 ++ bytes 4 c3 ++ bytes 4 c4 ++ bytes 4 c5
 bytesOf (Declared set) = 5 ∷ bytes 4 set
 bytesOf (Removed set) = 6 ∷ bytes 4 set
+bytesOf OnlyDeclared = 14 ∷ []
 bytesOf (Item variable attribute) = 7 ∷ bytes 1 variable ++ bytes 1 attribute
 bytesOf (CompareTwo variable attribute operator variable2 attribute2) =
     8 ∷ bytes 1 variable ++ bytes 1 attribute ++ bytes 1 operator ++ bytes 1 variable2 ++ bytes 1 attribute2
@@ -84,6 +100,7 @@ InWidth (Dependency left right) = Wide left × Wide right
 InWidth (Row object c0 c1 c2 c3 c4 c5) = Small object × Wide c0 × Wide c1 × Wide c2 × Wide c3 × Wide c4 × Wide c5
 InWidth (Declared set) = Wide set
 InWidth (Removed set) = Wide set
+InWidth OnlyDeclared = Unit {0}
 InWidth (Item variable attribute) = Small variable × Small attribute
 InWidth (CompareTwo variable attribute operator variable2 attribute2) =
     Small variable × Small attribute × Small operator × Small variable2 × Small attribute2

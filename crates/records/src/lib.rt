@@ -1,12 +1,13 @@
 // Records: "one byte of kind, then a body whose length the kind fixes". Reads the record at a position of some bytes.
 ghost use mathlib.Core.Path.{_≡_};
+ghost use mathlib.Core.Bool.{true};
 ghost use Prim.Native.Nat.{_+_, _≤_, _<_};
 ghost use lib.ListN.{length, drop};
 ghost use Rattle.records.specs.Fields.{field};
-ghost use Rattle.records.specs.Records.{isKind, bodyLength};
+ghost use Rattle.records.specs.Records.{whose, bodyLength, isKind, ofBook, ofQuery};
 ghost use Rattle.records.specs.Reader.{recordOf, readAt};
 
-// A record, in the order of the paper's table: kinds 1 to 6 are a book's, 7 to 10 a query's.
+// A record, in the order of the paper's table: kinds 1 to 6 and 14 are a book's, 7 to 10 a query's.
 pub enum Record {
     Attribute {
         id: u8,
@@ -35,6 +36,7 @@ pub enum Record {
     Removed {
         set: u32,
     },
+    OnlyDeclared,
     Item {
         variable: u8,
         attribute: u8,
@@ -67,14 +69,24 @@ pub enum Reading {
     Found(Record, usize),
 }
 
-// The length of the body of each kind, by kind; 0 stands for no kind.
-const BODY_LENGTHS: [usize; 11] = [0, 2, 5, 8, 25, 4, 4, 2, 5, 7, 0];
+// The table of kinds, two numbers for each byte from 0 on: whose kind it is (0 no one's, 1 a book's, 2 a query's), and the
+// length of its body.
+const KINDS: [u8; 30] = [
+    0, 0, 1, 2, 1, 5, 1, 8, 1, 25, 1, 4, 1, 4, 2, 2, 2, 5, 2, 7, 2, 0, 0, 0, 0, 0, 0, 0, 1, 0,
+];
 
 // A byte as a number of 32 bits.
 pub fn wide(b: u8) -> u32
     ensures { λ r. ⌜ (r ≡ b) × (r < 256) ⌝ }
 {
     b as u32
+}
+
+// A byte as an index.
+fn index(b: u8) -> usize
+    ensures { λ r. ⌜ r ≡ b ⌝ }
+{
+    b as usize
 }
 
 // The field of one byte at a position.
@@ -97,19 +109,39 @@ pub fn word_at(s: &[u8], at: usize) -> u32
     b0 + 256 * (b1 + 256 * (b2 + 256 * b3))
 }
 
-// Whether a byte is a kind of the table.
-pub fn is_kind(kind: u8) -> bool
-    ensures { λ r. ⌜ r ≡ isKind kind ⌝ }
+// Whose kind a byte is: 0 no one's, 1 a book's, 2 a query's.
+fn whose(kind: u8) -> u8
+    ensures { λ r. ⌜ r ≡ whose kind ⌝ }
 {
-    1 <= kind && kind <= 10
+    let at: usize = index(kind) * 2;
+    if at < 30 { KINDS[at] } else { 0 }
 }
 
 // How many bytes the body of a kind has, the kind byte not counted.
 pub fn body_length(kind: u8) -> usize
     ensures { λ r. ⌜ r ≡ bodyLength kind ⌝ }
 {
-    let k = kind as usize;
-    if k <= 10 { BODY_LENGTHS[k] } else { 0 }
+    let at: usize = index(kind) * 2 + 1;
+    if at < 30 { index(KINDS[at]) } else { 0 }
+}
+
+// Whether a byte is a kind of the table; of a book; of a query.
+pub fn is_kind(kind: u8) -> bool
+    ensures { λ r. ⌜ r ≡ isKind kind ⌝ }
+{
+    whose(kind) != 0
+}
+
+pub fn of_book(kind: u8) -> bool
+    ensures { λ r. ⌜ r ≡ ofBook kind ⌝ }
+{
+    whose(kind) == 1
+}
+
+pub fn of_query(kind: u8) -> bool
+    ensures { λ r. ⌜ r ≡ ofQuery kind ⌝ }
+{
+    whose(kind) == 2
 }
 
 // The row whose body starts at a position.
@@ -128,9 +160,9 @@ fn row(s: &[u8], body: usize) -> Record
     }
 }
 
-// The record of a kind of a book, 1 to 6, whose body starts at a position.
+// The record of a kind of a book whose body starts at a position.
 fn book_record(s: &[u8], kind: u8, body: usize) -> Record
-    requires { ⌜ (1 ≤ kind) × (kind ≤ 6) × (body + bodyLength kind ≤ length (now s)) ⌝ }
+    requires { ⌜ (ofBook kind ≡ true) × (body + bodyLength kind ≤ length (now s)) ⌝ }
     ensures { λ r. ⌜ r ≡ recordOf kind (drop body (now (s .entry))) ⌝ }
 {
     match kind {
@@ -150,15 +182,16 @@ fn book_record(s: &[u8], kind: u8, body: usize) -> Record
         5 => Record::Declared {
             set: word_at(s, body),
         },
-        _ => Record::Removed {
+        6 => Record::Removed {
             set: word_at(s, body),
         },
+        _ => Record::OnlyDeclared,
     }
 }
 
-// The record of a kind of a query, 7 to 10, whose body starts at a position.
+// The record of a kind of a query whose body starts at a position.
 fn query_record(s: &[u8], kind: u8, body: usize) -> Record
-    requires { ⌜ (7 ≤ kind) × (kind ≤ 10) × (body + bodyLength kind ≤ length (now s)) ⌝ }
+    requires { ⌜ (ofQuery kind ≡ true) × (body + bodyLength kind ≤ length (now s)) ⌝ }
     ensures { λ r. ⌜ r ≡ recordOf kind (drop body (now (s .entry))) ⌝ }
 {
     match kind {
@@ -199,7 +232,7 @@ pub fn read(s: &[u8], at: usize) -> Reading
     if s.len() - body < len {
         return Reading::Short(kind);
     }
-    if kind <= 6 {
+    if of_book(kind) {
         Reading::Found(book_record(s, kind, body), body + len)
     } else {
         Reading::Found(query_record(s, kind, body), body + len)

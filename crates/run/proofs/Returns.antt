@@ -37,7 +37,7 @@ use Rattle.run.specs.declared.ItemKinds.{ItemKinds}
 use Rattle.run.specs.Running.{room, numberOf, kindsOf, fullText, textOf, openingText, bytesOf, openingOf, stepOf}
 use Rattle.run.specs.Items.{GoodQuery, KindsOf, itemKindsOf, ItemKindsOf}
 use Rattle.run.proofs.Answering.{answered-prints}
-use Rattle.run.proofs.Stepping.{step-answered, step-refused, text-answered, text-refused, goes}
+use Rattle.run.proofs.Stepping.{step-answered, step-refused, text-answered, text-refused, goes, below-256}
 
 -- ---- a text that has room
 
@@ -220,7 +220,7 @@ module _ (b q : List ℕ) (serial : ℕ) (space out : List ℕ) (long : length s
       let c = answer-number d in
       let t : queryRefused (a .refusal) ≡ textOf b q serial =
       ap queryRefused (number-given c) ∙ text-refused b q serial c in
-      let h : a .refusal < 256 = omega (arith, number-given c, answer-number-means b q serial room .oneOf) in
+      let h : a .refusal < 256 = omega (arith, number-given c, below-256 (answer-number-means b q serial room .oneOf)) in
       let (x, y) = stands (queryRefused (a .refusal)) out
       (omega (arith, fits, room-enough .query (a .refusal) h)) k g f in (
         ap (λ (m : ℕ). ended m serial) (x ∙ ap (λ (v : ℕ). length (queryRefused v)) (number-given c))

@@ -3,7 +3,7 @@
 -- Assumes nothing.
 use mathlib.Core.Path.{_≡_, refl, sym, ap, ap₂, _∙_, subst}
 use mathlib.Core.Bool.{Bool, true, false}
-use mathlib.Core.Logic.{⊎-elim}
+use mathlib.Core.Logic.{_⊎_, ⊎-elim}
 use mathlib.Core.List.{List, [], _∷_, _++_}
 use Prim.Native.Nat.{ℕ, zero, suc, _+_, _≤_, _<_, _^_}
 use native.Mathlib.Nat.{not-suc-le-zero, le-refl}
@@ -24,6 +24,10 @@ use Rattle.run.specs.Statements.{StepInside, OpeningInside, Steps, usedU
 use Rattle.run.proofs.Answering.{read-some, answered-prints}
 
 -- ---- one step
+
+-- a number of the list fits in a byte
+pub below-256 : {n : ℕ} → (n ≤ 14) ⊎ (n ≡ 21) → n < 256
+below-256 c = ⊎-elim (λ l. omega (arith, l)) (λ e. omega (arith, e)) c
 
 abbrev answeredStep : List ℕ → List ℕ → ℕ → Stepped
 answeredStep b q serial = record {
@@ -91,7 +95,7 @@ module _ (b q : List ℕ) (serial : ℕ) where
     refused-inside : (numberOf b q serial ≡ 0 → ⊥) → StepInside b q serial
     refused-inside d =
         let e = step-refused d in
-        let k = room-enough .query (numberOf b q serial) (omega (arith, answer-number-means b q serial 8192 .oneOf)) in
+        let k = room-enough .query (numberOf b q serial) (below-256 (answer-number-means b q serial 8192 .oneOf)) in
         record {
           printed = subst (λ (s : Stepped). s .printed ≤ 98327) e (omega (arith, k));
           some = λ m. absurd (yes-no m (sym (ap (λ (s : Stepped). s .more) e)));

@@ -10,7 +10,7 @@ use Rattle.reduction.specs.Kept.{union, around, someHolds, removable, stays, st
 use Rattle.reduction.specs.Kept.{goesFor, goes, keeps, keptOf}
 use Rattle.scheme.specs.Dependencies.{Dependency, pass, passes, closure}
 use Rattle.scheme.specs.Growing.{familyOf, attributesOf, joins, holding, rounds, grown}
-use Rattle.scheme.specs.MaximalObjects.{computed, isOne, removing, adding, maximalObjects}
+use Rattle.scheme.specs.MaximalObjects.{computed, counted, isOne, removing, adding, maximalObjects}
 use Rattle.scheme.specs.MaximalObjects.{someCyclic}
 
 -- ---- document 000's banking scheme. Attributes: 0 BANK, 1 ACCT, 2 BALANCE, 3 CUST, 4 ADDR, 5 LOAN, 6 AMT
@@ -31,7 +31,10 @@ otherDependencies =
 
 -- the maximal objects, with declared ones and removed ones
 abbrev banking : List Dependency → List ℕ → List ℕ → List ℕ
-banking D declared removed = maximalObjects D bankingSets 127 declared removed
+banking D declared removed = maximalObjects D bankingSets 127 false declared removed
+
+abbrev onlyDeclared : List ℕ → List ℕ
+onlyDeclared declared = maximalObjects otherDependencies bankingSets 127 true declared []
 
 -- ---- three objects in a ring. Attributes: 0 A, 1 B, 2 C
 
@@ -46,14 +49,14 @@ ringDependencies = record { left = 1; right = 2 } ∷ record { left = 2; right =
 -- the refusal that a scheme of these objects meets: 9, or none
 abbrev ring : ℕ → List ℕ
 ring objects =
-    elim (someCyclic ringSets (maximalObjects ringDependencies ringSets objects [] [])) [ true ↦ 9 ∷ [] | false ↦ [] ]
+    elim (someCyclic ringSets (maximalObjects ringDependencies ringSets objects false [] [])) [ true ↦ 9 ∷ [] | false ↦ [] ]
 
 -- ---- two objects that do not join: AB and AC with B to C. They share A, which does not determine C, though all that
 -- AB
 -- has does
 
 abbrev apart : List ℕ
-apart = maximalObjects (record { left = 2; right = 4 } ∷ []) (3 ∷ 5 ∷ []) 3 [] []
+apart = maximalObjects (record { left = 2; right = 4 } ∷ []) (3 ∷ 5 ∷ []) 3 false [] []
 
 -- ---- the trials
 
@@ -72,13 +75,17 @@ trials =
     ∷ record { gives = banking otherDependencies (96 ∷ 127 ∷ 88 ∷ []) (88 ∷ 15 ∷ 88 ∷ []); says = 96 ∷ 127 ∷ 88 ∷ [] }
     ∷ record { gives = banking otherDependencies (127 ∷ 1 ∷ 127 ∷ 88 ∷ []) []; says = 15 ∷ 88 ∷ 96 ∷ 127 ∷ 1 ∷ [] }
     ∷ record { gives = apart; says = 1 ∷ 2 ∷ [] }
+    -- request 8: a removal that matches nothing, and only declared ones
+    ∷ record { gives = banking otherDependencies [] (1 ∷ []); says = 15 ∷ 88 ∷ 96 ∷ [] }
+    ∷ record { gives = onlyDeclared (127 ∷ 1 ∷ 127 ∷ []); says = 127 ∷ 1 ∷ [] }
+    ∷ record { gives = onlyDeclared []; says = [] }
     ∷ record { gives = ring 7; says = 9 ∷ [] }
     ∷ record { gives = ring 15; says = [] }
     ∷ []
 
 pub trials-hold : map (λ t. t .gives) trials ≡ map (λ t. t .says) trials
 unfolding trials bankingSets loanToBank otherDependencies ringSets ringDependencies
-    maximalObjects computed isOne removing adding someCyclic
+    maximalObjects computed counted isOne removing adding someCyclic
     grown rounds holding joins attributesOf familyOf closure passes pass
     acyclic left settle staying stays removable someHolds around union keptOf keeps goes goesFor
     bit has within _∩_ _∪_ single isEmpty rank members

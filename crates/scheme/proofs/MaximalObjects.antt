@@ -2,8 +2,9 @@
 -- In order: the computed list, the whole list.
 -- Assumes nothing.
 use mathlib.Core.Path.{_≡_, refl, sym, ap, _∙_, subst}
+use mathlib.Core.Bool.{Bool, true, false}
 use mathlib.Core.Logic.{⊎-elim}
-use mathlib.Core.List.{List, [], _∷_, map, List·Memᴰ, List·Memᴰ·append-cases}
+use mathlib.Core.List.{List, [], _∷_, map, List·Memᴰ, List·Memᴰ·append-cases, List·Memᴰ·not-nil}
 use Prim.Native.Nat.{ℕ, zero, suc, _≤_, _<_}
 use native.Mathlib.Nat.{le-refl, not-suc-le-zero, le-of-suc-le-suc, le-of-lt, eq-or-lt-of-le, lt-of-le-of-lt}
 use native.Mathlib.Nat.{lt-of-lt-of-le}
@@ -14,17 +15,17 @@ use Rattle.sets.proofs.Bits.{member-lt}
 use Rattle.sets.proofs.Sets.{⊆-refl}
 use Rattle.sets.proofs.Ranks.{rank-le, rank-lt-count}
 use Rattle.sets.proofs.Members.{members-has, members-only, length-members, getD-members, members-ascending}
-use Rattle.reduction.specs.Steps.{Family, at}
+use Rattle.reduction.specs.Steps.{Family, NoneTwice, at}
 use Rattle.reduction.proofs.Places.{mem-at}
 use Rattle.reduction.proofs.Kept.{kept-none-twice}
 use Rattle.scheme.specs.Dependencies.{Dependency}
 use Rattle.scheme.specs.Growing.{grown}
-use Rattle.scheme.specs.MaximalObjects.{allGrown, computed, removing, maximalObjects}
+use Rattle.scheme.specs.MaximalObjects.{allGrown, computed, counted, removing, maximalObjects}
 use Rattle.scheme.specs.Statements.{Bounded, LowestStart, ComputedList, SomeObjects, MaximalObjectList}
 use Rattle.scheme.proofs.KeptOrder.{KeptAt, kept-at, kept-in-order, kept-first, lies-in-kept, kept-widest}
 use Rattle.scheme.proofs.KeptOrder.{length-kept}
 use Rattle.scheme.proofs.Growing.{map-in, grown-least, grown-⊆}
-use Rattle.scheme.proofs.Lists.{leaves-out-in}
+use Rattle.scheme.proofs.Lists.{leaves-out-in, none-twice-nil}
 use Rattle.scheme.proofs.Removals.{removal, addition, length-removing, length-adding}
 
 -- ---- the computed list
@@ -146,30 +147,53 @@ module _ (D : List Dependency) (sets : List ℕ) (objects : ℕ) where
           inside = grown-⊆ D sets objects o (s .declared);
         })
 
-    module _ (declared removed : List ℕ) where
+    -- those that count are computed ones
+    counted-in : (only : Bool) {M : ℕ} → List·Memᴰ M (counted only (computed D sets objects))
+        → List·Memᴰ M (computed D sets objects)
+    unfolding counted
+    counted-in true m = absurd (List·Memᴰ·not-nil m)
+    counted-in false m = m
+
+    counted-once : (only : Bool) → NoneTwice (counted only (computed D sets objects))
+    unfolding counted
+    counted-once true = none-twice-nil
+    counted-once false = computed-list .noneTwice
+
+    counted-few : (only : Bool) → length (counted only (computed D sets objects)) ≤ 32
+    unfolding counted
+    counted-few true = omega arith
+    counted-few false = length-computed
+
+    module _ (only : Bool) (declared removed : List ℕ) where
+      abbrev counting : List ℕ
+      counting = counted only (computed D sets objects)
+
       some-objects : ((M : ℕ) → List·Memᴰ M declared → SomeObjects objects M)
-          → (M : ℕ) → List·Memᴰ M (maximalObjects D sets objects declared removed) → SomeObjects objects M
+          → (M : ℕ) → List·Memᴰ M (maximalObjects D sets objects only declared removed) → SomeObjects objects M
       unfolding maximalObjects
       some-objects h M m =
-          ⊎-elim (λ c. computed-objects (removal removed (computed D sets objects) .wasThere M c)) (λ d. h M d)
-          (addition (removing (computed D sets objects) removed) declared .fromEither M m)
+          ⊎-elim (λ c. computed-objects (counted-in only (removal removed counting .wasThere M c))) (λ d. h M d)
+          (addition (removing counting removed) declared .fromEither M m)
 
       -- a declared set that does not stay is added
-      added-in : (M : ℕ) → List·Memᴰ M declared → (List·Memᴰ M (removing (computed D sets objects) removed) → ⊥)
-          → List·Memᴰ M (addition (removing (computed D sets objects) removed) declared .ends)
+      added-in : (M : ℕ) → List·Memᴰ M declared → (List·Memᴰ M (removing counting removed) → ⊥)
+          → List·Memᴰ M (addition (removing counting removed) declared .ends)
       added-in M d n =
-          let l = removing (computed D sets objects) removed in
+          let l = removing counting removed in
           let r = addition l declared in
           ⊎-elim (λ i. absurd (n i)) (λ i. i)
           (List·Memᴰ·append-cases l (subst (List·Memᴰ M) (r .atTheEnd) (r .there M d)))
 
-      pub maximal-object-list : MaximalObjectList D sets objects declared removed
-      unfolding maximalObjects
+      pub maximal-object-list : MaximalObjectList D sets objects only declared removed
+      unfolding maximalObjects counted
       maximal-object-list =
-          let l = removing (computed D sets objects) removed in
-          let out = removal removed (computed D sets objects) in
+          let l = removing counting removed in
+          let out = removal removed counting in
           let r = addition l declared in
           record {
+            counting = counting;
+            noneCount = λ e. ap (λ (b : Bool). counted b (computed D sets objects)) e;
+            allCount = λ e. ap (λ (b : Bool). counted b (computed D sets objects)) e;
             staying = l;
             added = r .ends;
             whole = r .atTheEnd;
@@ -178,11 +202,11 @@ module _ (D : List Dependency) (sets : List ℕ) (objects : ℕ) where
             adds = λ M. (λ m. (leaves-out-in (r .ordered) m, r .new M m), λ p. added-in M (p .0) (p .1));
             addedInOrder = r .byFirstPlace;
             someObjects = some-objects;
-            noneTwice = r .noneTwice (out .noneTwice (computed-list .noneTwice));
+            noneTwice = r .noneTwice (out .noneTwice (counted-once only));
             atMost = omega (
               arith,
               length-adding l declared,
-              length-computed,
-              length-removing removed (computed D sets objects),
+              counted-few only,
+              length-removing removed counting,
             );
           }

@@ -2,7 +2,7 @@
 -- In order: counts over an array's length, the computed list, the list of maximal objects.
 -- Assumes nothing.
 use mathlib.Core.Path.{_≡_, refl, sym, ap, ap₂, _∙_, subst}
-use mathlib.Core.Bool.{Bool}
+use mathlib.Core.Bool.{Bool, true, false}
 use mathlib.Core.Logic.{⊎-elim}
 use mathlib.Core.List.{List, [], _∷_, List·Memᴰ, List·Memᴰ·head, List·Memᴰ·tail}
 use Prim.Native.Nat.{ℕ, zero, suc, _-_, _^_, _≤_, _<_, min}
@@ -22,10 +22,10 @@ use Rattle.scheme.specs.declared.ObjectList.{ObjectList}
 use Rattle.scheme.specs.declared.MaximalList.{MaximalList}
 use Rattle.scheme.specs.Dependencies.{Dependency}
 use Rattle.scheme.specs.Growing.{grown}
-use Rattle.scheme.specs.MaximalObjects.{allGrown, computed, removing, adding, maximalObjects, someUnmatched}
+use Rattle.scheme.specs.MaximalObjects.{allGrown, computed, counted, removing, adding, maximalObjects, bothKinds}
 use Rattle.scheme.specs.MaximalObjects.{someCyclic}
 use Rattle.scheme.specs.OfScheme.{pairs, listed, setsOf, HasRoom, declaredOf, removedOf, computedOf, maximalOf}
-use Rattle.scheme.specs.OfScheme.{unmatchedOf, cyclicOf, maximalListOf}
+use Rattle.scheme.specs.OfScheme.{countingOf, bothOf, cyclicOf, maximalListOf}
 use Rattle.scheme.proofs.Growing.{of-map, grown-lt}
 use Rattle.scheme.proofs.Removals.{length-removing, length-adding}
 use Rattle.scheme.proofs.MaximalObjects.{length-computed}
@@ -83,6 +83,18 @@ module _ (D : List Dependency) (sets : List ℕ) (objects : ℕ) where
       ap (λ (F : Family). packed (maximal F))
       (ap (cutTo (2 ^ 32 - 1)) (q ∙ listing-take (grown-listing e)) ∙ cut-to-all (allGrown D sets objects) all-grown-lt)
 
+-- those of a list that count, as the code has them
+counted-by : (b : Bool) (p : SetList) {n : ℕ} {l m : List ℕ} → take (p .count) (p .sets) ≡ m
+    → n ≡ countingOf b (p .count) → l ≡ take n (p .sets) → l ≡ counted b m
+unfolding counted countingOf
+counted-by true p t q z = z ∙ ap (λ (i : ℕ). take i (p .sets)) q
+counted-by false p t q z = z ∙ ap (λ (i : ℕ). take i (p .sets)) q ∙ t
+
+counted-few : (b : Bool) (l : List ℕ) → length l ≤ 32 → length (counted b l) ≤ 32
+unfolding counted
+counted-few true l h = omega arith
+counted-few false l h = h
+
 module _ (s : Scheme) where
   pub computed-of : {r : SetList} {n : ℕ} → length (s .left) ≡ 64 → n ≡ min (s .dependencies) 64
       → r ≡ packed (computed (pairs n (s .left) (s .right)) (s .sets) (s .objects)) → r ≡ packed (computedOf s)
@@ -102,16 +114,27 @@ module _ (s : Scheme) where
       → l ≡ computedOf s
   found-list e q = q ∙ listing-take (packed-listing e length-found)
 
-  pub found-few : {l : List ℕ} → l ≡ computedOf s → length l ≤ 32
-  found-few e = subst (λ (x : List ℕ). length x ≤ 32) (sym e) length-found
+  -- those that count
+  abbrev counts : List ℕ
+  counts = counted (s .only) (computedOf s)
+
+  pub counted-list : {p : SetList} {n : ℕ} {l : List ℕ} → p ≡ packed (computedOf s) → n ≡ countingOf (s .only) (p .count)
+      → l ≡ take n (p .sets) → l ≡ counts
+  counted-list {p} e q z = counted-by (s .only) p (found-list e refl) q z
+
+  length-counts : length counts ≤ 32
+  length-counts = counted-few (s .only) (computedOf s) length-found
+
+  pub found-few : {l : List ℕ} → l ≡ counts → length l ≤ 32
+  found-few e = subst (λ (x : List ℕ). length x ≤ 32) (sym e) length-counts
 
   abbrev remaining : List ℕ
-  remaining = removing (computedOf s) (removedOf s)
+  remaining = removing counts (removedOf s)
 
   rest-few : length remaining ≤ 32
-  rest-few = omega (arith, length-removing (removedOf s) (computedOf s), length-found)
+  rest-few = omega (arith, length-removing (removedOf s) counts, length-counts)
 
-  pub rest-of : {p : ObjectList} {l r : List ℕ} → l ≡ computedOf s → r ≡ removedOf s → p ≡ listed (removing l r)
+  pub rest-of : {p : ObjectList} {l r : List ℕ} → l ≡ counts → r ≡ removedOf s → p ≡ listed (removing l r)
       → p ≡ listed remaining
   rest-of e q t = t ∙ ap₂ (λ (x y : List ℕ). listed (removing x y)) e q
 
@@ -143,24 +166,23 @@ module _ (s : Scheme) where
   all-list e h q = q ∙ listing-take (listed-listing e (all-few h))
 
   -- the two faults, and all of it
-  pub unmatched-of : {u : Bool} {l r : List ℕ} → l ≡ computedOf s → r ≡ removedOf s → u ≡ someUnmatched r l
-      → u ≡ unmatchedOf s
-  unfolding unmatchedOf
-  unmatched-of e q t = t ∙ ap₂ (λ (x y : List ℕ). someUnmatched x y) q e
+  pub both-of : {u : Bool} → u ≡ bothKinds (s .only) (s .removals) → u ≡ bothOf s
+  unfolding bothOf
+  both-of e = e
 
   pub cyclic-of : {y : Bool} {l : List ℕ} → l ≡ maximalOf s → y ≡ someCyclic (s .sets) l → y ≡ cyclicOf s
   unfolding cyclicOf
   cyclic-of e t = t ∙ ap (someCyclic (s .sets)) e
 
-  pub returned : {a : ObjectList} {u y : Bool} → a ≡ listed (maximalOf s) → u ≡ unmatchedOf s → y ≡ cyclicOf s
-      → _≡_ {A = MaximalList} (record { sets = a .sets; count = a .count; unmatched = u; cyclic = y }) (maximalListOf s)
+  pub returned : {a : ObjectList} {u y : Bool} → a ≡ listed (maximalOf s) → u ≡ bothOf s → y ≡ cyclicOf s
+      → _≡_ {A = MaximalList} (record { sets = a .sets; count = a .count; both = u; cyclic = y }) (maximalListOf s)
   unfolding maximalListOf listed
   returned {u = u} {y} e p q =
       ap {B = MaximalList}
-      (λ (x : ObjectList). record { sets = x .sets; count = x .count; unmatched = u; cyclic = y }) e
+      (λ (x : ObjectList). record { sets = x .sets; count = x .count; both = u; cyclic = y }) e
       ∙ ap₂ {C = MaximalList} (λ (b c : Bool). record {
         sets = padded 40 (maximalOf s);
         count = length (maximalOf s);
-        unmatched = b;
+        both = b;
         cyclic = c;
       }) p q

@@ -10,17 +10,17 @@ use mathlib.Core.List.{Memᴰ·append-right}
 use Prim.Native.Nat.{ℕ, zero, suc, _+_, _≤_, _<_, suc-le-suc}
 use native.Mathlib.Nat.{not-suc-le-zero, le-of-suc-le-suc, zero-lt-suc, lt-trans}
 use native.Mathlib.Omega.{arith}
-use lib.Dec.{eqb}
+use lib.Dec.{eqb, ltb}
 use lib.ListN.{length, length-append}
-use borrow.Author.Tests.{eq-eqb, eqb-true, not-true, not-false}
-use Rattle.sets.proofs.Tests.{not-yes, yes-no}
+use borrow.Author.Tests.{eq-eqb, eqb-true, not-true, not-false, lt-ltb, ltb-true}
+use Rattle.sets.proofs.Tests.{not-yes, yes-no, and-yes, yes-and}
 use Rattle.reduction.specs.Steps.{at, NoneTwice}
 use Rattle.reduction.specs.Kept.{acyclic}
 use Rattle.reduction.proofs.Places.{mem-at}
 use Rattle.scheme.specs.Growing.{familyOf}
-use Rattle.scheme.specs.MaximalObjects.{isOne, removing, adding, someUnmatched, someCyclic}
+use Rattle.scheme.specs.MaximalObjects.{isOne, removing, adding, bothKinds, someCyclic}
 use Rattle.scheme.specs.Statements.{LeavesOut, ended, kept, out, Removal, FirstPlace, ByFirstPlace, Addition}
-use Rattle.scheme.specs.Statements.{UnmatchedFault, CyclicFault}
+use Rattle.scheme.specs.Statements.{BothFault, CyclicFault}
 use Rattle.scheme.proofs.Lists.{Asks, Passes, some-yes, yes-some, some-no, no-some}
 use Rattle.scheme.proofs.Lists.{none-twice-snoc, leaves-out-in, leaves-out-length, leaves-out-once}
 
@@ -238,24 +238,18 @@ length-adding l declared =
 
 -- ---- the two faults
 
-pub unmatched-asks : (l : List ℕ) → Asks (λ s. not (isOne s l)) (λ named. someUnmatched named l)
-unfolding someUnmatched
-unmatched-asks l = record { none = refl; more = λ x named. refl }
-
 pub cyclic-asks : (sets : List ℕ) → Asks (λ M. not (acyclic (familyOf sets M))) (someCyclic sets)
 unfolding someCyclic
 cyclic-asks sets = record { none = refl; more = λ x l. refl }
 
-pub unmatched-fault : (named l : List ℕ) → UnmatchedFault named l
-unmatched-fault named l = record {
-  yes = λ s m n. some-yes (unmatched-asks l) m (ap not (isOne-no s l n));
-  yesBack = λ e. back (yes-some (unmatched-asks l) named e);
-  no = λ h. some-no (unmatched-asks l) named (λ s m. ap not (isOne-yes (h s m)));
-  noBack = λ e s m. yes-isOne s l (not-false (isOne s l) (no-some (unmatched-asks l) e m));
+pub both-fault : (only : Bool) (removals : ℕ) → BothFault only removals
+unfolding bothKinds
+both-fault only removals = record {
+  exactly = (
+    λ y. let p = yes-and only (ltb 0 removals) y in (p .0, ltb-true 0 removals (p .1)),
+    λ p. and-yes (p .0) (lt-ltb 0 removals (p .1)),
+  );
 }
-  where
-    back : Passes (λ s. not (isOne s l)) named → (s : ℕ) × List·Memᴰ s named × (List·Memᴰ s l → ⊥)
-    back r = (r .one, r .there, no-isOne (r .one) l (not-true (isOne (r .one) l) (r .passing)))
 
 pub cyclic-fault : (sets l : List ℕ) → CyclicFault sets l
 cyclic-fault sets l = record {

@@ -1,6 +1,7 @@
 -- The theorems of `Statements`, in its order; before them those of the closure and of grown sets, whose statements
 -- stand with their definitions (`LeastClosed`, `LeastGrown`).
 -- Assumes nothing.
+use mathlib.Core.Bool.{Bool}
 use mathlib.Core.List.{List}
 use Prim.Native.Nat.{ℕ, _^_, _<_}
 use Rattle.sets.specs.Sets.{_∈_, _⊆_}
@@ -8,10 +9,10 @@ use Rattle.scheme.specs.Dependencies.{Dependency, LeastClosed, closure}
 use Rattle.scheme.specs.Growing.{LeastGrown, grown}
 use Rattle.scheme.specs.Statements.{DeterminesAttributes, Bounded, JoinsByTheRule, GrownInEveryOrder}
 use Rattle.scheme.specs.Statements.{ComputedList, Removal, Addition}
-use Rattle.scheme.specs.Statements.{UnmatchedFault, CyclicFault, MaximalObjectList}
+use Rattle.scheme.specs.Statements.{BothFault, CyclicFault, MaximalObjectList}
 use Rattle.scheme.proofs.Closing.{closure-least, closure-mono}
 use Rattle.scheme.proofs.Growing.{joins-by-the-rule, grown-least, grown-in-every-order}
-use Rattle.scheme.proofs.Removals.{removal, addition, unmatched-fault, cyclic-fault}
+use Rattle.scheme.proofs.Removals.{removal, addition, both-fault, cyclic-fault}
 use Rattle.scheme.proofs.MaximalObjects.{computed-list, maximal-object-list}
 
 -- ---- the closure
@@ -43,8 +44,9 @@ module _ (D : List Dependency) (sets : List ℕ) (objects : ℕ) (o : Bounded D 
 
   -- ---- the list of maximal objects
 
-  pub maximal-objects-are-the-list : (declared removed : List ℕ) → MaximalObjectList D sets objects declared removed
-  maximal-objects-are-the-list declared removed = maximal-object-list D sets objects o declared removed
+  pub maximal-objects-are-the-list : (only : Bool) (declared removed : List ℕ)
+      → MaximalObjectList D sets objects only declared removed
+  maximal-objects-are-the-list only declared removed = maximal-object-list D sets objects o only declared removed
 
 -- ---- removals and declarations
 
@@ -56,8 +58,8 @@ adding-adds = addition
 
 -- ---- the two faults
 
-pub unmatched-is-a-fault : (named l : List ℕ) → UnmatchedFault named l
-unmatched-is-a-fault = unmatched-fault
+pub both-is-a-fault : (only : Bool) (removals : ℕ) → BothFault only removals
+both-is-a-fault = both-fault
 
 pub cyclic-is-a-fault : (sets l : List ℕ) → CyclicFault sets l
 cyclic-is-a-fault = cyclic-fault

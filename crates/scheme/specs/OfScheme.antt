@@ -2,7 +2,7 @@
 -- In order: its lists and faults, as the code has them.
 -- Assumes nothing.
 use mathlib.Core.Path.{_≡_}
-use mathlib.Core.Bool.{Bool}
+use mathlib.Core.Bool.{Bool, true, false}
 use mathlib.Core.List.{List, [], _∷_}
 use Prim.Native.Nat.{ℕ, zero, suc, _+_, _≤_}
 use lib.ListN.{length, take}
@@ -11,7 +11,7 @@ use Rattle.scheme.specs.declared.Scheme.{Scheme}
 use Rattle.scheme.specs.declared.ObjectList.{ObjectList}
 use Rattle.scheme.specs.declared.MaximalList.{MaximalList}
 use Rattle.scheme.specs.Dependencies.{Dependency}
-use Rattle.scheme.specs.MaximalObjects.{computed, maximalObjects, someUnmatched, someCyclic}
+use Rattle.scheme.specs.MaximalObjects.{computed, maximalObjects, bothKinds, someCyclic}
 
 -- ---- its lists and faults
 
@@ -36,11 +36,11 @@ unfoldable pub computedOf : Scheme → List ℕ
 computedOf s = computed (dependenciesOf s) (s .sets) (s .objects)
 
 unfoldable pub maximalOf : Scheme → List ℕ
-maximalOf s = maximalObjects (dependenciesOf s) (s .sets) (s .objects) (declaredOf s) (removedOf s)
+maximalOf s = maximalObjects (dependenciesOf s) (s .sets) (s .objects) (s .only) (declaredOf s) (removedOf s)
 
--- the faults 8 and 9
-unfoldable pub unmatchedOf : Scheme → Bool
-unmatchedOf s = someUnmatched (removedOf s) (computedOf s)
+-- the faults 21 and 9
+unfoldable pub bothOf : Scheme → Bool
+bothOf s = bothKinds (s .only) (s .removals)
 
 unfoldable pub cyclicOf : Scheme → Bool
 cyclicOf s = someCyclic (s .sets) (maximalOf s)
@@ -64,11 +64,15 @@ pub record HasRoom (p : ObjectList) (n : ℕ) : Type 0 where
   pub whole : p ≡ listed (setsOf p)
   pub room : p .count + n ≤ 40
 
+-- how many of so many computed sets count
+unfoldable pub countingOf : Bool → ℕ → ℕ
+countingOf only n = elim only [ true ↦ 0 | false ↦ n ]
+
 -- the maximal objects with both faults
 unfoldable pub maximalListOf : Scheme → MaximalList
 maximalListOf s = record {
   sets = padded 40 (maximalOf s);
   count = length (maximalOf s);
-  unmatched = unmatchedOf s;
+  both = bothOf s;
   cyclic = cyclicOf s;
 }

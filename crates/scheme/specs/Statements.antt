@@ -3,7 +3,7 @@
 -- declarations, the two faults, the list of maximal objects.
 -- Assumes nothing.
 use mathlib.Core.Path.{_≡_}
-use mathlib.Core.Bool.{true, false}
+use mathlib.Core.Bool.{Bool, true, false}
 use mathlib.Core.Logic.{_⊎_, _↔_}
 use mathlib.Core.List.{List, [], _∷_, _++_, List·Memᴰ}
 use Prim.Native.Nat.{ℕ, _+_, _^_, _≤_, _<_}
@@ -14,7 +14,7 @@ use Rattle.reduction.specs.Kept.{acyclic}
 use Rattle.reduction.specs.Statements.{OfAttributes, LiesIn}
 use Rattle.scheme.specs.Dependencies.{Dependency, LeastClosed}
 use Rattle.scheme.specs.Growing.{familyOf, joins, Holding, grown}
-use Rattle.scheme.specs.MaximalObjects.{computed, removing, adding, maximalObjects, someUnmatched, someCyclic}
+use Rattle.scheme.specs.MaximalObjects.{computed, removing, adding, maximalObjects, bothKinds, someCyclic}
 
 -- ---- what a scheme has: attributes and objects 0 to 31
 
@@ -113,12 +113,9 @@ pub record Addition (l declared : List ℕ) : Type 0 where
 
 -- ---- the two faults
 
--- "a kind 6 set equal to no computed one"
-pub record UnmatchedFault (named l : List ℕ) : Type 0 where
-  pub yes : (s : ℕ) → List·Memᴰ s named → (List·Memᴰ s l → ⊥) → someUnmatched named l ≡ true
-  pub yesBack : someUnmatched named l ≡ true → (s : ℕ) × List·Memᴰ s named × (List·Memᴰ s l → ⊥)
-  pub no : ((s : ℕ) → List·Memᴰ s named → List·Memᴰ s l) → someUnmatched named l ≡ false
-  pub noBack : someUnmatched named l ≡ false → (s : ℕ) → List·Memᴰ s named → List·Memᴰ s l
+-- "21 a book with both kinds"
+pub record BothFault (only : Bool) (removals : ℕ) : Type 0 where
+  pub exactly : (bothKinds only removals ≡ true) ↔ ((only ≡ true) × (1 ≤ removals))
 
 -- "a remaining maximal object with a cycle"
 pub record CyclicFault (sets l : List ℕ) : Type 0 where
@@ -134,18 +131,21 @@ pub record SomeObjects (objects M : ℕ) : Type 0 where
   pub filled : (k : ℕ) × (k ∈ M)
   pub inside : M ⊆ objects
 
--- the list is the computed sets that are not removed, in their order, then the declared ones that are not among them,
--- each at its first place
-pub record MaximalObjectList (D : List Dependency) (sets : List ℕ) (objects : ℕ)
+-- the list is the computed sets that count and are not removed, in their order, then the declared ones that are not among
+-- them, each at its first place; a removal that matches nothing has no effect
+pub record MaximalObjectList (D : List Dependency) (sets : List ℕ) (objects : ℕ) (only : Bool)
     (declared removed : List ℕ) : Type 0 where
+  pub counting : List ℕ
+  pub noneCount : only ≡ true → counting ≡ []
+  pub allCount : only ≡ false → counting ≡ computed D sets objects
   pub staying : List ℕ
   pub added : List ℕ
-  pub whole : maximalObjects D sets objects declared removed ≡ staying ++ added
-  pub stays : (M : ℕ) → List·Memᴰ M staying ↔ (List·Memᴰ M (computed D sets objects) × (List·Memᴰ M removed → ⊥))
-  pub stayInOrder : LeavesOut staying (computed D sets objects)
+  pub whole : maximalObjects D sets objects only declared removed ≡ staying ++ added
+  pub stays : (M : ℕ) → List·Memᴰ M staying ↔ (List·Memᴰ M counting × (List·Memᴰ M removed → ⊥))
+  pub stayInOrder : LeavesOut staying counting
   pub adds : (M : ℕ) → List·Memᴰ M added ↔ (List·Memᴰ M declared × (List·Memᴰ M staying → ⊥))
   pub addedInOrder : ByFirstPlace added declared
   pub someObjects : ((M : ℕ) → List·Memᴰ M declared → SomeObjects objects M)
-      → (M : ℕ) → List·Memᴰ M (maximalObjects D sets objects declared removed) → SomeObjects objects M
-  pub noneTwice : NoneTwice (maximalObjects D sets objects declared removed)
-  pub atMost : length (maximalObjects D sets objects declared removed) ≤ 32 + length declared
+      → (M : ℕ) → List·Memᴰ M (maximalObjects D sets objects only declared removed) → SomeObjects objects M
+  pub noneTwice : NoneTwice (maximalObjects D sets objects only declared removed)
+  pub atMost : length (maximalObjects D sets objects only declared removed) ≤ 32 + length declared

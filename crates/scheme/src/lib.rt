@@ -10,9 +10,10 @@ ghost use Rattle.reduction.specs.Kept.{acyclic};
 ghost use Rattle.reduction.specs.Packed.{packed};
 ghost use Rattle.scheme.specs.Dependencies.{pass, closure};
 ghost use Rattle.scheme.specs.Growing.{familyOf, attributesOf, round, grown};
-ghost use Rattle.scheme.specs.MaximalObjects.{allGrown, computed, isOne, removing, adding, someUnmatched};
+ghost use Rattle.scheme.specs.MaximalObjects.{allGrown, computed, isOne, removing, adding, bothKinds};
 ghost use Rattle.scheme.specs.MaximalObjects.{someCyclic};
-ghost use Rattle.scheme.specs.OfScheme.{pairs, Sides, listed, setsOf, HasRoom, computedOf, maximalListOf};
+ghost use Rattle.scheme.specs.OfScheme.{pairs, Sides, listed, setsOf, HasRoom, computedOf, countingOf};
+ghost use Rattle.scheme.specs.OfScheme.{maximalListOf};
 use reduction::SetList;
 use sets::ATTRIBUTES;
 use sets::AttributeSet;
@@ -34,6 +35,7 @@ pub struct Scheme {
     pub declarations: usize,
     pub removed: [ObjectSet; 8],
     pub removals: usize,
+    pub only: bool,
 }
 
 // The first n of a list, or the whole list where it has fewer: a list in an array, without the places behind it.
@@ -234,18 +236,18 @@ fn is_one(list: &[ObjectSet], s: ObjectSet) -> bool
     false
 }
 
-// Whether some named set is none of the list.
-fn some_unmatched<'a>(named: &'a [ObjectSet], list: &'a [ObjectSet]) -> bool
-    ensures { λ r. ⌜ r ≡ someUnmatched (now (named .entry)) (now (list .entry)) ⌝ }
+// How many of some computed sets count: none where only declared ones do.
+fn counting(only: bool, count: usize) -> usize
+    ensures { λ r. ⌜ r ≡ countingOf only count ⌝ }
 {
-    let mut i: usize = 0;
-    while i < named.len() {
-        if !is_one(list, named[i]) {
-            return true;
-        }
-        i += 1;
-    }
-    false
+    if only { 0 } else { count }
+}
+
+// Whether sets are to be removed and only declared ones count.
+fn both_kinds(only: bool, removals: usize) -> bool
+    ensures { λ r. ⌜ r ≡ bothKinds only removals ⌝ }
+{
+    only && removals > 0
 }
 
 // Whether the objects of m make a family with a cycle.
@@ -329,12 +331,12 @@ pub fn computed(s: Scheme) -> SetList
     computed_sets(&s.left, &s.right, n, &s.sets, s.objects)
 }
 
-// The maximal objects of a scheme, at most 40, with the two faults: a set to be removed that equals no computed one,
+// The maximal objects of a scheme, at most 40, with the two faults: a set to be removed where only declared ones count,
 // and a maximal object with a cycle. The places behind the sets are 0.
 pub struct MaximalList {
     pub sets: [ObjectSet; 40],
     pub count: usize,
-    pub unmatched: bool,
+    pub both: bool,
     pub cyclic: bool,
 }
 
@@ -343,17 +345,17 @@ pub fn maximal_objects(s: Scheme) -> MaximalList
     ensures { λ r. ⌜ r ≡ maximalListOf s ⌝ }
 {
     let found = computed(s);
-    let list = first(&found.sets, found.count);
+    let list = first(&found.sets, counting(s.only, found.count));
     let removed = first(&s.removed, s.removals);
-    let unmatched = some_unmatched(removed, list);
     let rest = without_removed(list, removed);
+    let both = both_kinds(s.only, s.removals);
     let all = with_declared(rest, first(&s.declared, s.declarations));
     let cyclic = some_cyclic(&s.sets, first(&all.sets, all.count));
     let sets = all.sets;
     MaximalList {
         sets,
         count: all.count,
-        unmatched,
+        both,
         cyclic,
     }
 }

@@ -115,7 +115,7 @@ use Rattle.relation.proofs.Theorems.{nothing-shared, agreement-by-clauses, ever
 use Rattle.relation.proofs.Theorems.{join-computed, part-computed, demand3}
 use Rattle.scheme.proofs.Theorems.{closure-is-least, closure-is-monotone, object-joins-by-the-rule, grown-is-least}
 use Rattle.scheme.proofs.Theorems.{grown-is-the-same-in-every-order}
-use Rattle.scheme.proofs.Theorems.{computed-is-the-list, removing-removes, adding-adds, unmatched-is-a-fault}
+use Rattle.scheme.proofs.Theorems.{computed-is-the-list, removing-removes, adding-adds, both-is-a-fault}
 use Rattle.scheme.proofs.Theorems.{cyclic-is-a-fault}
 use Rattle.scheme.proofs.Theorems.{maximal-objects-are-the-list}
 use Rattle.scheme.proofs.Examples.{trials-hold as scheme-trials-hold}
@@ -143,7 +143,7 @@ use Rattle.printout.proofs.Theorems.{in-decimal, cells-read, texts-read, fit-te
 use Rattle.printout.proofs.Theorems.{room-enough}
 use Rattle.printout.proofs.Examples.{trials-hold as printout-trials-hold}
 use Rattle.run.proofs.Theorems.{answered-prints, step-inside, opening-inside, run-prints}
-use Rattle.trials.proofs.Starred.{starred-hold}
+use Rattle.trials.proofs.Starred.{starred-hold, runs-hold}
 
 -- ---- the three demands, for the bytes b of any book and q of any query
 

@@ -1,5 +1,6 @@
--- The starred trials of the paper, in one list under one theorem: what the definitions give beside what the paper says.
--- In order: the books, the trials.
+-- The starred trials of the paper, in one list under one theorem, and runs of the unit that the requests change: what the
+-- definitions give beside what the paper and the requests say.
+-- In order: the books, the trials, runs of the unit, the theorems.
 -- Assumes nothing.
 use mathlib.Core.Path.{_≡_, refl}
 use mathlib.Core.List.{List, [], _∷_, _++_, map}
@@ -7,23 +8,26 @@ use Prim.Native.Nat.{ℕ}
 use Rattle.sets.specs.Sets.{bit, has, within, _∩_, _∪_, _∖_, single, isEmpty, rank, count, members}
 use Rattle.values.specs.Values.{inRange}
 use Rattle.records.specs.Fields.{bytes, value, field}
-use Rattle.records.specs.Records.{isKind, bodyLengths, bodyLength, kindOf, bytesOf, bytesOfAll}
+use Rattle.records.specs.Records.{kinds, whose, isKind, ofBook, ofQuery, bodyLength, kindOf}
+use Rattle.records.specs.Records.{bytesOf, bytesOfAll}
 use Rattle.records.specs.Reader.{bodies, recordOf, readFront, readAt}
 use Rattle.records.specs.Checks.{firstOf}
 use Rattle.records.specs.Walking.{shortNumber, walkFrom, walk}
 use Rattle.records.specs.declared.Record.{Record}
-use Rattle.records.specs.declared.Record.the-variants.{Attribute, Object, Dependency, Item, End}
+use Rattle.records.specs.declared.Record.the-variants.{Attribute, Object, Dependency, Row, Declared, Removed}
+use Rattle.records.specs.declared.Record.the-variants.{OnlyDeclared, Item, End}
 use Rattle.reduction.specs.Kept.{union, around, someHolds, removable, stays, staying, settle, left, acyclic}
 use Rattle.reduction.specs.Kept.{goesFor, goes, keeps, keptOf, kept}
 use Rattle.relation.specs.Tables.{cellOf}
 use Rattle.scheme.specs.Dependencies.{pass, passes, closure}
 use Rattle.scheme.specs.Growing.{familyOf, attributesOf, joins, holding, rounds, grown}
-use Rattle.scheme.specs.MaximalObjects.{computed, isOne, removing, adding, maximalObjects, someUnmatched, someCyclic}
-use Rattle.scheme.specs.OfScheme.{pairs, computedOf, maximalOf, unmatchedOf, cyclicOf}
-use Rattle.book.specs.Faults.{ofBook, someNonZero, someOutside, wrongCells, rowChecks, maximalChecks, checks}
+use Rattle.scheme.specs.MaximalObjects.{computed, isOne, removing, adding, counted}
+use Rattle.scheme.specs.MaximalObjects.{maximalObjects, bothKinds, someCyclic}
+use Rattle.scheme.specs.OfScheme.{pairs, computedOf, maximalOf, bothOf, cyclicOf}
+use Rattle.book.specs.Faults.{someNonZero, someOutside, wrongCells, rowChecks, maximalChecks, checks}
 use Rattle.book.specs.Faults.{faultOf}
 use Rattle.book.specs.Declaring.{nothingDeclared, withAttribute, withObject, withDependency, withDeclared, withRemoved}
-use Rattle.book.specs.Declaring.{declare}
+use Rattle.book.specs.Declaring.{withOnly, declare}
 use Rattle.book.specs.Reading.{Outcome, isRow, withRow, records, lastNumber, lastFault, afterLast}
 use Rattle.book.specs.Reading.{read}
 use Rattle.book.specs.Reading.{maximalsOf}
@@ -32,7 +36,6 @@ use Rattle.values.specs.Operators.{allows}
 use Rattle.query.specs.Asking.{itemOf, itemsOf, comparisonOf, comparisonsOf, nameOf, namesOf, naming, attributesNamed}
 use Rattle.query.specs.Asking.{filled, askedOf}
 use Rattle.query.specs.Faults as Queries
-use Rattle.query.specs.Faults.{ofQuery}
 use Rattle.query.specs.Reading as Query
 use Rattle.query.specs.Reading.{isEnd, walkQuery, containing, isNil, unconnected, someUnconnected, wholeNumber, atEnd}
 use Rattle.values.specs.Values.{signed, valueOf, lessCell, matches}
@@ -111,22 +114,74 @@ starred =
     ∷ record { gives = refusal survey (End ∷ []); says = 10 ∷ [] }
     ∷ []
 
+-- ---- runs of the unit, by request 8
+
+-- attributes 0 and 1, objects 0 {0} and 1 {1} with a row each, no dependency: two computed maximal objects, of one object
+unfoldable pub apart : List Record
+apart = Attribute 0 0 ∷ Attribute 1 0 ∷ Object 0 1 ∷ Object 1 2 ∷ Row 0 7 0 0 0 0 0 ∷ Row 1 9 0 0 0 0 0 ∷ []
+
+-- what the unit prints with these records behind them, for a query of attribute 0, then one of both attributes
+unfoldable pub run : List Record → List ℕ
+run rs = printout (bytesOfAll (apart ++ rs)) (bytesOfAll (Item 0 0 ∷ End ∷ Item 0 0 ∷ Item 0 1 ∷ End ∷ []))
+
+-- "Q 1 rows 1" and "7"
+unfoldable pub first : List ℕ
+first = 81 ∷ 32 ∷ 49 ∷ 32 ∷ 114 ∷ 111 ∷ 119 ∷ 115 ∷ 32 ∷ 49 ∷ 10 ∷ 55 ∷ 10 ∷ []
+
+-- "Q 2 rows 1" and "7 9"
+unfoldable pub second : List ℕ
+second = 81 ∷ 32 ∷ 50 ∷ 32 ∷ 114 ∷ 111 ∷ 119 ∷ 115 ∷ 32 ∷ 49 ∷ 10 ∷ 55 ∷ 32 ∷ 57 ∷ 10 ∷ []
+
+-- "query refused 12"
+unfoldable pub twelve : List ℕ
+twelve =
+    113 ∷ 117 ∷ 101 ∷ 114 ∷ 121 ∷ 32 ∷ 114 ∷ 101 ∷ 102 ∷ 117 ∷ 115 ∷ 101 ∷ 100 ∷ 32 ∷ 49 ∷ 50 ∷ 10 ∷ []
+
+-- "book refused" with the digits of a number
+unfoldable pub stopped : List ℕ → List ℕ
+stopped digits =
+    98 ∷ 111 ∷ 111 ∷ 107 ∷ 32 ∷ 114 ∷ 101 ∷ 102 ∷ 117 ∷ 115 ∷ 101 ∷ 100 ∷ 32 ∷ (digits ++ 10 ∷ [])
+
+unfoldable pub runs : List Trial
+runs =
+    record { gives = run []; says = first ++ twelve }  -- the computed ones
+    ∷ record { gives = run (Declared 3 ∷ []); says = first ++ second }  -- and a declared one
+    ∷ record { gives = run (OnlyDeclared ∷ []); says = twelve }  -- kind 14 alone: no maximal object
+    ∷ record { gives = run (OnlyDeclared ∷ Declared 3 ∷ []); says = first ++ second }  -- before kind 5
+    ∷ record { gives = run (Declared 3 ∷ OnlyDeclared ∷ []); says = first ++ second }  -- behind it
+    ∷ record { gives = run (OnlyDeclared ∷ Declared 2 ∷ OnlyDeclared ∷ []); says = twelve }  -- twice
+    ∷ record { gives = run (OnlyDeclared ∷ Removed 1 ∷ []); says = stopped (50 ∷ 49 ∷ []) }  -- 21
+    ∷ record { gives = run (Removed 1 ∷ OnlyDeclared ∷ []); says = stopped (50 ∷ 49 ∷ []) }  -- 21
+    ∷ record { gives = run (OnlyDeclared ∷ Removed 0 ∷ []); says = stopped (53 ∷ []) }  -- its own number first: 5
+    ∷ record { gives = run (OnlyDeclared ∷ Removed 4 ∷ []); says = stopped (55 ∷ []) }  -- 7
+    ∷ record { gives = run (Removed 3 ∷ []); says = first ++ twelve }  -- it matches nothing
+    ∷ record { gives = run (Removed 1 ∷ Removed 3 ∷ []); says = twelve }  -- one that matches, and one that does not
+    ∷ []
+
+-- ---- the theorems
+
+all-hold :
+    (map (λ t. t .gives) starred ≡ map (λ t. t .says) starred)
+    × (map (λ t. t .gives) runs ≡ map (λ t. t .says) runs)
+unfolding runs run apart first second twelve stopped output queries printout answers answersWithin fullText headLine
+    rowLines cellTexts line behind bookRefused queryRefused cellText integerText decimal decimalWithin number
+    spaceNumber rowsOf answerRows itemKinds choices inFront rowsFor cellsOf allTrue isTrue rightCell itemCells
+    Answers.rowsOf connection parts insertRows insertRow lessRow tablesOf Tables.rowsOf Tables.rowOf Tables.cellsOf
+    part joinRows goingOn eachPassing matchesAll rowsMatch allPass lowestStanding lowestFor shown together project
+    projected holds compares matches lessCell valueOf signed refusal Query.read atEnd wholeNumber someUnconnected
+    unconnected isNil containing walkQuery isEnd Queries.faultOf Queries.checks ofQuery askedOf filled attributesNamed
+    naming namesOf nameOf comparisonsOf comparisonOf itemsOf itemOf allows starred banking sizes survey ring read
+    afterLast lastFault lastNumber records walk walkFrom shortNumber withRow isRow maximalsOf declare withOnly
+    withRemoved withDeclared withDependency withObject withAttribute nothingDeclared faultOf checks maximalChecks
+    rowChecks wrongCells someOutside someNonZero firstOf ofBook cyclicOf bothOf maximalOf computedOf pairs someCyclic
+    counted bothKinds maximalObjects adding removing isOne computed grown rounds holding joins attributesOf familyOf
+    closure passes pass cellOf readAt readFront recordOf bodies bytesOfAll bytesOf kindOf bodyLength whose kinds
+    isKind field value bytes kept keptOf keeps goes goesFor acyclic left settle staying stays removable someHolds
+    around union inRange members rank isEmpty single _∖_ _∪_ _∩_ within has bit
+all-hold = (refl, refl)
+
 pub starred-hold : map (λ t. t .gives) starred ≡ map (λ t. t .says) starred
-unfolding output queries printout answers answersWithin fullText headLine rowLines cellTexts line behind bookRefused
-    queryRefused cellText integerText decimal decimalWithin number spaceNumber rowsOf answerRows itemKinds choices inFront
-    rowsFor cellsOf allTrue isTrue rightCell itemCells Answers.rowsOf connection parts insertRows insertRow lessRow
-    tablesOf Tables.rowsOf Tables.rowOf Tables.cellsOf part joinRows goingOn eachPassing matchesAll rowsMatch allPass
-    lowestStanding lowestFor shown together project projected holds compares matches lessCell valueOf signed
-    refusal Query.read atEnd wholeNumber someUnconnected unconnected isNil containing walkQuery isEnd
-    Queries.faultOf Queries.checks ofQuery askedOf filled attributesNamed naming namesOf nameOf comparisonsOf comparisonOf
-    itemsOf itemOf allows starred banking sizes survey ring read afterLast lastFault lastNumber records walk walkFrom
-    shortNumber
-    withRow isRow maximalsOf declare withRemoved withDeclared withDependency withObject withAttribute nothingDeclared
-    faultOf checks
-    maximalChecks rowChecks wrongCells someOutside someNonZero firstOf ofBook cyclicOf unmatchedOf maximalOf computedOf
-    pairs someCyclic someUnmatched maximalObjects adding removing isOne computed grown rounds holding joins attributesOf
-    familyOf closure passes pass cellOf readAt readFront recordOf bodies bytesOfAll bytesOf kindOf bodyLength
-    bodyLengths
-    isKind field value bytes kept keptOf keeps goes goesFor acyclic left settle staying stays removable someHolds around
-    union inRange members rank isEmpty single _∖_ _∪_ _∩_ within has bit
-starred-hold = refl
+starred-hold = all-hold .0
+
+pub runs-hold : map (λ t. t .gives) runs ≡ map (λ t. t .says) runs
+runs-hold = all-hold .1

@@ -42,6 +42,12 @@ with-removed-requires : tie.Need-with-removed-requires
 with-removed-requires c κs =
     removed-accepted _ _ (same-fault _ (c .before .r5 .given .1) (c .before .before .before .pre)) .room
 
+enum-told : tie.Need-enum-told
+enum-told c = search needs
+
+with-only-requires : tie.Need-with-only-requires
+with-only-requires c κs = search needs
+
 returns : tie.Need-returns
 unfolding declare
 returns c =
@@ -73,7 +79,12 @@ returns-5 c =
     .given .1))
 
 returns-6 : tie.Need-returns-6
-returns-6 c = adds-nothing _ _ (c .match .keys6)
+unfolding declare
+returns-6 c =
+    c .with-only .ensures ∙ ap (declare (c .before .before .before .args .s)) (sym (c .before .enum-told .given .1))
+
+returns-7 : tie.Need-returns-7
+returns-7 c = adds-nothing _ _ (c .match .keys7)
 
 pub declare-spec : {M : Type 1} → statement M
 declare-spec =
@@ -89,9 +100,12 @@ declare-spec =
     with-declared-requires
     enum-known-r-5
     with-removed-requires
+    enum-told
+    with-only-requires
     returns
     returns-2
     returns-3
     returns-4
     returns-5
-    returns-6)
+    returns-6
+    returns-7)

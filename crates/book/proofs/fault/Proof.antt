@@ -1,5 +1,6 @@
 -- `book::fault` meets its contract: in each arm the record is of that kind. Assumes nothing.
 use mathlib.Core.Path.{ap, sym, _∙_}
+use Rattle.records.specs.Checks.{firstOf}
 use Rattle.book.specs.Faults.{checks, faultOf}
 use Rattle.book.proofs.Declaring.{not-of-a-book}
 use borrow.Author.Needs.{needs}
@@ -42,6 +43,9 @@ enum-known-r-6 c = search needs
 maximal-fault-requires-2 : tie.Need-maximal-fault-requires-2
 maximal-fault-requires-2 c κs = search needs
 
+enum-told : tie.Need-enum-told
+enum-told c = search needs
+
 returns : tie.Need-returns
 returns c =
     c .attribute-fault .ensures ∙ ap (faultOf (c .before .before .before .before .args .s)) (sym (c .before .before .r
@@ -76,7 +80,11 @@ returns-6 c =
     .given .1))
 
 returns-7 : tie.Need-returns-7
-returns-7 c = not-of-a-book _ _ (c .match .keys7)
+unfolding faultOf checks firstOf
+returns-7 c = ap (faultOf (c .before .before .args .s)) (sym (c .enum-told .given .1))
+
+returns-8 : tie.Need-returns-8
+returns-8 c = not-of-a-book _ _ (c .match .keys8)
 
 pub fault-spec : {M : Type 1} → statement M
 fault-spec =
@@ -94,10 +102,12 @@ fault-spec =
     maximal-fault-requires
     enum-known-r-6
     maximal-fault-requires-2
+    enum-told
     returns
     returns-2
     returns-3
     returns-4
     returns-5
     returns-6
-    returns-7)
+    returns-7
+    returns-8)

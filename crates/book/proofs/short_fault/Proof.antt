@@ -1,16 +1,18 @@
 -- `book::short_fault` meets its contract: the test is that of the definition. Assumes nothing.
-use borrow.Author.Tests.{leb-true, leb-false}
-use mathlib.Core.Logic.{⊎-elim}
-use Rattle.book.proofs.Declaring.{short-yes, short-low, short-high}
+use Rattle.records.proofs.Checks.{tested}
+use Rattle.book.proofs.Declaring.{short-yes, short-no}
+use borrow.Author.Needs.{needs}
 use Rattle.book.proofs.short_fault.Statement.{statement}
 use Rattle.book.proofs.short_fault.Tie as tie
 
+of-book-requires : tie.Need-of-book-requires
+of-book-requires c κs = search needs
+
 returns : tie.Need-returns
-returns c = short-yes _ (c .before .if1 .taken) (leb-true _ _ (c .if2 .taken))
+returns c = short-yes _ (tested (c .before .of-book .ensures) (c .if1 .taken))
 
 returns-2 : tie.Need-returns-2
-returns-2 c =
-    ⊎-elim (λ w. short-high _ (w .0 .taken) (leb-false _ _ (w .1 .left))) (λ w. short-low _ (w .left)) (c .if1 .came)
+returns-2 c = short-no _ (tested (c .before .of-book .ensures) (c .if1 .left))
 
 pub short-fault-spec : {M : Type 1} → statement M
-short-fault-spec = tie.close (tie.spec returns returns-2)
+short-fault-spec = tie.close (tie.spec of-book-requires returns returns-2)

@@ -2,8 +2,8 @@
 -- Assumes nothing.
 use mathlib.Core.Path.{refl}
 use native.Mathlib.Omega.{arith}
-use Rattle.host.specs.Words.{words}
-use Rattle.host.proofs.Words.{words-are, words-none, down}
+use Rattle.host.specs.Words.{words, hasWords}
+use Rattle.host.proofs.Words.{words-are, words-none}
 use borrow.Author.Needs.{needs}
 use Rattle.host.proofs.print_words.Statement.{statement}
 use Rattle.host.proofs.print_words.Tie as tie
@@ -96,140 +96,136 @@ same-length : tie.Need-same-length
 same-length c = search needs
 
 returns : tie.Need-returns
-unfolding words
+unfolding words hasWords
 returns c =
-    words-are _ _ {k = 1} (omega (arith, c .before .before .before .before .before .match .keys1)) (omega arith)
-    (omega arith) refl (c .before .before .print-text .ensures)
+    words-are _ _ {k = 1} (omega (arith, c .before .before .before .before .before .match .keys1)) refl
+    refl (c .before .before .print-text .ensures)
 
 same-length-2 : tie.Need-same-length-2
 same-length-2 c = search needs
 
 returns-2 : tie.Need-returns-2
-unfolding words
+unfolding words hasWords
 returns-2 c =
-    words-are _ _ {k = 2} (omega (arith, c .before .before .before .before .before .match .keys2)) (omega arith)
-    (omega arith) refl (c .before .before .print-text2 .ensures)
+    words-are _ _ {k = 2} (omega (arith, c .before .before .before .before .before .match .keys2)) refl
+    refl (c .before .before .print-text2 .ensures)
 
 same-length-3 : tie.Need-same-length-3
 same-length-3 c = search needs
 
 returns-3 : tie.Need-returns-3
-unfolding words
+unfolding words hasWords
 returns-3 c =
-    words-are _ _ {k = 3} (omega (arith, c .before .before .before .before .before .match .keys3)) (omega arith)
-    (omega arith) refl (c .before .before .print-text3 .ensures)
+    words-are _ _ {k = 3} (omega (arith, c .before .before .before .before .before .match .keys3)) refl
+    refl (c .before .before .print-text3 .ensures)
 
 same-length-4 : tie.Need-same-length-4
 same-length-4 c = search needs
 
 returns-4 : tie.Need-returns-4
-unfolding words
+unfolding words hasWords
 returns-4 c =
-    words-are _ _ {k = 4} (omega (arith, c .before .before .before .before .before .match .keys4)) (omega arith)
-    (omega arith) refl (c .before .before .print-text4 .ensures)
+    words-are _ _ {k = 4} (omega (arith, c .before .before .before .before .before .match .keys4)) refl
+    refl (c .before .before .print-text4 .ensures)
 
 same-length-5 : tie.Need-same-length-5
 same-length-5 c = search needs
 
 returns-5 : tie.Need-returns-5
-unfolding words
+unfolding words hasWords
 returns-5 c =
-    words-are _ _ {k = 5} (omega (arith, c .before .before .before .before .before .match .keys5)) (omega arith)
-    (omega arith) refl (c .before .before .print-text5 .ensures)
+    words-are _ _ {k = 5} (omega (arith, c .before .before .before .before .before .match .keys5)) refl
+    refl (c .before .before .print-text5 .ensures)
 
 same-length-6 : tie.Need-same-length-6
 same-length-6 c = search needs
 
 returns-6 : tie.Need-returns-6
-unfolding words
+unfolding words hasWords
 returns-6 c =
-    words-are _ _ {k = 6} (omega (arith, c .before .before .before .before .before .match .keys6)) (omega arith)
-    (omega arith) refl (c .before .before .print-text6 .ensures)
+    words-are _ _ {k = 6} (omega (arith, c .before .before .before .before .before .match .keys6)) refl
+    refl (c .before .before .print-text6 .ensures)
 
 same-length-7 : tie.Need-same-length-7
 same-length-7 c = search needs
 
 returns-7 : tie.Need-returns-7
-unfolding words
+unfolding words hasWords
 returns-7 c =
-    words-are _ _ {k = 7} (omega (arith, c .before .before .before .before .before .match .keys7)) (omega arith)
-    (omega arith) refl (c .before .before .print-text7 .ensures)
+    words-are _ _ {k = 7} (omega (arith, c .before .before .before .before .before .match .keys7)) refl
+    refl (c .before .before .print-text7 .ensures)
 
 same-length-8 : tie.Need-same-length-8
 same-length-8 c = search needs
 
 returns-8 : tie.Need-returns-8
-unfolding words
+unfolding words hasWords
 returns-8 c =
-    words-are _ _ {k = 8} (omega (arith, c .before .before .before .before .before .match .keys8)) (omega arith)
-    (omega arith) refl (c .before .before .print-text8 .ensures)
+    words-are _ _ {k = 9} (omega (arith, c .before .before .before .before .before .match .keys8)) refl
+    refl (c .before .before .print-text8 .ensures)
 
 same-length-9 : tie.Need-same-length-9
 same-length-9 c = search needs
 
 returns-9 : tie.Need-returns-9
-unfolding words
+unfolding words hasWords
 returns-9 c =
-    words-are _ _ {k = 9} (omega (arith, c .before .before .before .before .before .match .keys9)) (omega arith)
-    (omega arith) refl (c .before .before .print-text9 .ensures)
+    words-are _ _ {k = 10} (omega (arith, c .before .before .before .before .before .match .keys9)) refl
+    refl (c .before .before .print-text9 .ensures)
 
 same-length-10 : tie.Need-same-length-10
 same-length-10 c = search needs
 
 returns-10 : tie.Need-returns-10
-unfolding words
+unfolding words hasWords
 returns-10 c =
-    words-are _ _ {k = 10} (omega (arith, c .before .before .before .before .before .match .keys10)) (omega arith)
-    (omega arith) refl (c .before .before .print-text10 .ensures)
+    words-are _ _ {k = 11} (omega (arith, c .before .before .before .before .before .match .keys10)) refl
+    refl (c .before .before .print-text10 .ensures)
 
 same-length-11 : tie.Need-same-length-11
 same-length-11 c = search needs
 
 returns-11 : tie.Need-returns-11
-unfolding words
+unfolding words hasWords
 returns-11 c =
-    words-are _ _ {k = 11} (omega (arith, c .before .before .before .before .before .match .keys11)) (omega arith)
-    (omega arith) refl (c .before .before .print-text11 .ensures)
+    words-are _ _ {k = 12} (omega (arith, c .before .before .before .before .before .match .keys11)) refl
+    refl (c .before .before .print-text11 .ensures)
 
 same-length-12 : tie.Need-same-length-12
 same-length-12 c = search needs
 
 returns-12 : tie.Need-returns-12
-unfolding words
+unfolding words hasWords
 returns-12 c =
-    words-are _ _ {k = 12} (omega (arith, c .before .before .before .before .before .match .keys12)) (omega arith)
-    (omega arith) refl (c .before .before .print-text12 .ensures)
+    words-are _ _ {k = 13} (omega (arith, c .before .before .before .before .before .match .keys12)) refl
+    refl (c .before .before .print-text12 .ensures)
 
 same-length-13 : tie.Need-same-length-13
 same-length-13 c = search needs
 
 returns-13 : tie.Need-returns-13
-unfolding words
+unfolding words hasWords
 returns-13 c =
-    words-are _ _ {k = 13} (omega (arith, c .before .before .before .before .before .match .keys13)) (omega arith)
-    (omega arith) refl (c .before .before .print-text13 .ensures)
+    words-are _ _ {k = 14} (omega (arith, c .before .before .before .before .before .match .keys13)) refl
+    refl (c .before .before .print-text13 .ensures)
 
 same-length-14 : tie.Need-same-length-14
 same-length-14 c = search needs
 
 returns-14 : tie.Need-returns-14
-unfolding words
+unfolding words hasWords
 returns-14 c =
-    words-are _ _ {k = 14} (omega (arith, c .before .before .before .before .before .match .keys14)) (omega arith)
-    (omega arith) refl (c .before .before .print-text14 .ensures)
+    words-are _ _ {k = 21} (omega (arith, c .before .before .before .before .before .match .keys14)) refl
+    refl (c .before .before .print-text14 .ensures)
 
 returns-15 : tie.Need-returns-15
 returns-15 c =
     let r = c .match .rest in
-    words-none _ _ (λ a b. omega (
-      arith,
-      a,
-      down 1 (down 2 (down 3 (down 4 (down 5 (down 6 (down 7 (down 8 (down 9
-          (down 10 (down 11 (down 12 (down 13 (down 14 b (r .1)) (r .0 .1)) (r .0 .0 .1)) (r .0 .0 .0 .1)) (r .0 .0 .0 .0
-          .1)) (r .0 .0 .0 .0 .0 .1)) (r .0 .0 .0 .0 .0 .0 .1)) (r .0 .0 .0 .0 .0 .0 .0 .1)) (r .0 .0 .0 .0 .0 .0 .0 .0
-          .1)) (r .0 .0 .0 .0 .0 .0 .0 .0 .0 .1)) (r .0 .0 .0 .0 .0 .0 .0 .0 .0 .0 .1)) (r .0 .0 .0 .0 .0 .0 .0 .0 .0 .0
-          .0 .1)) (r .0 .0 .0 .0 .0 .0 .0 .0 .0 .0 .0 .0 .1)) (r .0 .0 .0 .0 .0 .0 .0 .0 .0 .0 .0 .0 .0 .1),
-    ))
+    words-none _ _ (r .0 .0 .0 .0 .0 .0 .0 .0 .0 .0 .0 .0 .0 .1) (r .0 .0 .0 .0 .0 .0 .0 .0 .0 .0 .0 .0 .1)
+    (r .0 .0 .0 .0 .0 .0 .0 .0 .0 .0 .0 .1) (r .0 .0 .0 .0 .0 .0 .0 .0 .0 .0 .1)
+    (r .0 .0 .0 .0 .0 .0 .0 .0 .0 .1) (r .0 .0 .0 .0 .0 .0 .0 .0 .1) (r .0 .0 .0 .0 .0 .0 .0 .1)
+    (r .0 .0 .0 .0 .0 .0 .1) (r .0 .0 .0 .0 .0 .1) (r .0 .0 .0 .0 .1) (r .0 .0 .0 .1) (r .0 .0 .1) (r .0 .1)
+    (r .1)
 
 pub print-words-spec : {M : Type 1} → statement M
 print-words-spec =

@@ -1,24 +1,41 @@
--- `records::body_length` meets its contract: the table is that of `bodyLength`, and past it no kind has a body.
+-- `records::body_length` meets its contract: the table is that of the definition, and past it no kind has a body.
 -- Assumes nothing.
-use mathlib.Core.Path.{refl, sym}
-use borrow.Author.Needs.{needs}
-use Rattle.records.specs.Records.{bodyLengths, bodyLength}
+use mathlib.Core.Path.{ap, sym, _∙_}
+use Prim.Native.Nat.{ℕ, _+_, _*_}
+use native.Mathlib.Omega.{arith}
+use lib.ListN.{getD}
+use Rattle.records.specs.Records.{kinds, bodyLength}
 use Rattle.records.proofs.Records.{bodyLength-past}
+use borrow.Author.Needs.{needs}
 use Rattle.records.proofs.body_length.Statement.{statement}
 use Rattle.records.proofs.body_length.Tie as tie
+use Rattle.records.proofs.body_length.Reads as reads
+use Rattle.records.proofs.body_length.Lts as lts
+use Rattle.records.proofs.index.Reads as index-reads
 
-mul-result : tie.Need-mul-result
-mul-result c = search needs
+index-requires : tie.Need-index-requires
+index-requires c κs = search needs
 
-array-read-result : tie.Need-array-read-result
-array-read-result c = search needs
+mul-at : tie.Need-mul-at
+mul-at c = search needs
+
+add-at : tie.Need-add-at
+add-at c = search needs
+
+array-read-index : tie.Need-array-read-index
+array-read-index c = search needs
+
+index-requires-2 : tie.Need-index-requires-2
+index-requires-2 c κs = search needs
 
 returns : tie.Need-returns
-unfolding bodyLengths bodyLength
-returns c = refl
+unfolding bodyLength kinds
+returns c = c .index2 .ensures ∙ ap (λ (i : ℕ). getD kinds (i * 2 + 1) 0) (c .before .before .index .ensures)
 
 returns-2 : tie.Need-returns-2
-returns-2 c = sym (bodyLength-past _ (c .if1 .left))
+returns-2 c = sym (bodyLength-past _ (omega (arith, c .before .index .ensures, c .if1 .left)))
 
 pub body-length-spec : {M : Type 1} → statement M
-body-length-spec = tie.close (tie.spec mul-result array-read-result returns returns-2)
+body-length-spec =
+    tie.close
+    (tie.spec index-requires mul-at add-at array-read-index index-requires-2 returns returns-2)

@@ -1,7 +1,8 @@
 -- `records::book_record` meets its contract: in each arm the kind says how long the body is and which fields it has.
 -- Assumes nothing.
 use Rattle.records.proofs.Records.{attribute-at, object-at, dependency-at, declared-at, removed-at}
-use Rattle.records.specs.Records.{bodyLength, bodyLengths}
+use Rattle.records.proofs.Records.{onlyDeclared-at, last-of-book}
+use Rattle.records.specs.Records.{bodyLength, kinds}
 use mathlib.Core.Path.{_≡_, ap}
 use native.Mathlib.Omega.{arith}
 use borrow.Author.Needs.{needs}
@@ -9,49 +10,49 @@ use Rattle.records.proofs.book_record.Statement.{statement}
 use Rattle.records.proofs.book_record.Tie as tie
 
 byte-at-requires : tie.Need-byte-at-requires
-unfolding bodyLength bodyLengths
+unfolding bodyLength kinds
 byte-at-requires c κs = omega (arith, ap bodyLength (c .match .keys1))
 
 add-byte-at : tie.Need-add-byte-at
 add-byte-at c = search needs
 
 byte-at-requires-2 : tie.Need-byte-at-requires-2
-unfolding bodyLength bodyLengths
+unfolding bodyLength kinds
 byte-at-requires-2 c κs = omega (arith, ap bodyLength (c .before .match .keys1))
 
 byte-at-requires-3 : tie.Need-byte-at-requires-3
-unfolding bodyLength bodyLengths
+unfolding bodyLength kinds
 byte-at-requires-3 c κs = omega (arith, ap bodyLength (c .match .keys2))
 
 add-word-at : tie.Need-add-word-at
 add-word-at c = search needs
 
 word-at-requires : tie.Need-word-at-requires
-unfolding bodyLength bodyLengths
+unfolding bodyLength kinds
 word-at-requires c κs = omega (arith, ap bodyLength (c .before .match .keys2))
 
 word-at-requires-2 : tie.Need-word-at-requires-2
-unfolding bodyLength bodyLengths
+unfolding bodyLength kinds
 word-at-requires-2 c κs = omega (arith, ap bodyLength (c .match .keys3))
 
 add-word-at-2 : tie.Need-add-word-at-2
 add-word-at-2 c = search needs
 
 word-at-requires-3 : tie.Need-word-at-requires-3
-unfolding bodyLength bodyLengths
+unfolding bodyLength kinds
 word-at-requires-3 c κs = omega (arith, ap bodyLength (c .before .match .keys3))
 
 row-requires : tie.Need-row-requires
-unfolding bodyLength bodyLengths
+unfolding bodyLength kinds
 row-requires c κs = omega (arith, ap bodyLength (c .match .keys4))
 
 word-at-requires-4 : tie.Need-word-at-requires-4
-unfolding bodyLength bodyLengths
+unfolding bodyLength kinds
 word-at-requires-4 c κs = omega (arith, ap bodyLength (c .match .keys5))
 
 word-at-requires-5 : tie.Need-word-at-requires-5
-unfolding bodyLength bodyLengths
-word-at-requires-5 c κs = let e : c .before .before .args .kind ≡ 6 = omega arith in omega (arith, ap bodyLength e)
+unfolding bodyLength kinds
+word-at-requires-5 c κs = omega (arith, ap bodyLength (c .match .keys6))
 
 returns : tie.Need-returns
 returns c = search (needs, attribute-at)
@@ -69,7 +70,15 @@ returns-5 : tie.Need-returns-5
 returns-5 c = search (needs, declared-at)
 
 returns-6 : tie.Need-returns-6
-returns-6 c = let e : c .before .before .before .args .kind ≡ 6 = omega arith in search (needs, removed-at)
+returns-6 c = search (needs, removed-at)
+
+returns-7 : tie.Need-returns-7
+returns-7 c =
+    let r = c .match .rest in
+    let a = c .before .before .args in
+    onlyDeclared-at (a .s .now) (a .kind) (a .body)
+    (last-of-book (a .kind) (c .before .before .pre .0) (r .0 .0 .0 .0 .0 .1) (r .0 .0 .0 .0 .1)
+    (r .0 .0 .0 .1) (r .0 .0 .1) (r .0 .1) (r .1))
 
 pub book-record-spec : {M : Type 1} → statement M
 book-record-spec =
@@ -92,4 +101,5 @@ book-record-spec =
     returns-3
     returns-4
     returns-5
-    returns-6)
+    returns-6
+    returns-7)

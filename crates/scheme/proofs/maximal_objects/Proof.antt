@@ -1,13 +1,25 @@
 -- `scheme::maximal_objects` meets its contract: each part is the definition's, by its callees (`OfScheme`).
 -- Assumes nothing.
-use Rattle.scheme.proofs.OfScheme.{found-list, found-few, rest-of, rest-room, all-of, all-list, unmatched-of}
+use Rattle.scheme.proofs.OfScheme.{counted-list, found-few, rest-of, rest-room, all-of, all-list, both-of}
 use Rattle.scheme.proofs.OfScheme.{cyclic-of, returned}
 use borrow.Author.Needs.{needs}
 use Rattle.scheme.proofs.maximal_objects.Statement.{statement}
 use Rattle.scheme.proofs.maximal_objects.Tie as tie
+use Rattle.scheme.proofs.maximal_objects.Reads as reads
+use Rattle.scheme.proofs.maximal_objects.Lts as lts
+use Rattle.scheme.proofs.both_kinds.Reads as both-kinds-reads
+use Rattle.scheme.proofs.computed.Reads as computed-reads
+use Rattle.scheme.proofs.counting.Reads as counting-reads
+use Rattle.scheme.proofs.first.Reads as first-reads
+use Rattle.scheme.proofs.some_cyclic.Reads as some-cyclic-reads
+use Rattle.scheme.proofs.with_declared.Reads as with-declared-reads
+use Rattle.scheme.proofs.without_removed.Reads as without-removed-reads
 
 computed-requires : tie.Need-computed-requires
 computed-requires c κs = search needs
+
+counting-requires : tie.Need-counting-requires
+counting-requires c κs = search needs
 
 first-requires : tie.Need-first-requires
 first-requires c κs = search needs
@@ -15,29 +27,29 @@ first-requires c κs = search needs
 first-requires-2 : tie.Need-first-requires-2
 first-requires-2 c κs = search needs
 
-some-unmatched-requires : tie.Need-some-unmatched-requires
-some-unmatched-requires c κs = search needs
-
 without-removed-requires : tie.Need-without-removed-requires
 without-removed-requires c κs =
-    let at-first = c .before .before .before .before .before in
-    let at-computed = at-first .before .before .before .before in
-    let s = at-computed .before .args .t1 in
-    found-few s (found-list s (at-computed .computed .ensures) (at-first .first .ensures))
+    let s = c .before .before .before .before .before .before .before .before .before .before .args .t1 in
+    found-few s (counted-list s (c .before .before .before .before .before .before .before .before .before .computed
+    .ensures) (c .before .before .before .before .before .counting .ensures) (c .before .before .before .before
+    .first .ensures))
+
+both-kinds-requires : tie.Need-both-kinds-requires
+both-kinds-requires c κs = search needs
 
 first-requires-3 : tie.Need-first-requires-3
 first-requires-3 c κs = search needs
 
 with-declared-requires : tie.Need-with-declared-requires
 with-declared-requires c κs =
-    let at-without-removed = c .before .before .before .before in
-    let at-first2 = at-without-removed .before .before in
-    let at-first = at-first2 .before .before .before .before in
-    let at-computed = at-first .before .before .before .before in
-    let s = at-computed .before .args .t1 in
-    let found = found-list s (at-computed .computed .ensures) (at-first .first .ensures) in
-    let rest = rest-of s found (at-first2 .first2 .ensures) (at-without-removed .without-removed .ensures) in
-    rest-room s rest (search needs) (c .first3 .ensures)
+    let s = c .before .before .before .before .before .before .before .before .before .before .before .before .before
+    .before .before .before .args .t1 in
+    let found = counted-list s (c .before .before .before .before .before .before .before .before .before .before
+    .before .before .before .before .before .computed .ensures) (c .before .before .before .before .before .before
+    .before .before .before .before .before .counting .ensures) (c .before .before .before .before .before .before
+    .before .before .before .before .first .ensures) in
+    rest-room s (rest-of s found (c .before .before .before .before .before .before .first2 .ensures) (c .before
+    .before .before .before .before .without-removed .ensures)) (search needs) (c .first3 .ensures)
 
 first-requires-4 : tie.Need-first-requires-4
 first-requires-4 c κs = search needs
@@ -47,32 +59,34 @@ some-cyclic-requires c κs = search needs
 
 returns : tie.Need-returns
 returns c =
-    let at-some-cyclic = c .before in
-    let at-first4 = at-some-cyclic .before in
-    let at-with-declared = at-first4 .before .before .before .before .before .before .before in
-    let at-first3 = at-with-declared .before in
-    let at-without-removed = at-first3 .before .before .before .before in
-    let at-some-unmatched = at-without-removed .before in
-    let at-first2 = at-some-unmatched .before in
-    let at-first = at-first2 .before .before .before .before in
-    let at-computed = at-first .before .before .before .before in
-    let s = at-computed .before .args .t1 in
-    let found = found-list s (at-computed .computed .ensures) (at-first .first .ensures) in
-    let rest = rest-of s found (at-first2 .first2 .ensures) (at-without-removed .without-removed .ensures) in
-    let all = all-of s rest (at-first3 .first3 .ensures) (at-with-declared .with-declared .ensures) in
-    let listed = all-list s all (search needs) (at-first4 .first4 .ensures) in
-    returned s all (unmatched-of s found (at-first2 .first2 .ensures) (at-some-unmatched .some-unmatched .ensures))
-    (cyclic-of s listed (at-some-cyclic .some-cyclic .ensures))
+    let s = c .before .before .before .before .before .before .before .before .before .before .before .before .before
+    .before .before .before .before .before .before .before .before .before .before .before .before .before .args .t1 in
+    let found = counted-list s (c .before .before .before .before .before .before .before .before .before .before
+    .before .before .before .before .before .before .before .before .before .before .before .before .before .before
+    .before .computed .ensures) (c .before .before .before .before .before .before .before .before .before .before
+    .before .before .before .before .before .before .before .before .before .before .before .counting .ensures) (c
+    .before .before .before .before .before .before .before .before .before .before .before .before .before .before
+    .before .before .before .before .before .before .first .ensures) in
+    let rest = rest-of s found (c .before .before .before .before .before .before .before .before .before .before
+    .before .before .before .before .before .before .first2 .ensures) (c .before .before .before .before .before
+    .before .before .before .before .before .before .before .before .before .before .without-removed .ensures) in
+    let all = all-of s rest (c .before .before .before .before .before .before .before .before .before .before
+    .first3 .ensures) (c .before .before .before .before .before .before .before .before .before .with-declared
+    .ensures) in
+    let listed = all-list s all (search needs) (c .before .before .first4 .ensures) in
+    returned s all (both-of s (c .before .before .before .before .before .before .before .before .before .before
+    .before .before .before .before .both-kinds .ensures)) (cyclic-of s listed (c .before .some-cyclic .ensures))
 
 pub maximal-objects-spec : {M : Type 1} → statement M
 maximal-objects-spec =
     tie.close
     (tie.spec
     computed-requires
+    counting-requires
     first-requires
     first-requires-2
-    some-unmatched-requires
     without-removed-requires
+    both-kinds-requires
     first-requires-3
     with-declared-requires
     first-requires-4
