@@ -24,8 +24,8 @@ static void fail(const char *what, unsigned long call) {
     exit(1);
 }
 
-/* Numbers of refusals: 8 and 15 to 20 are none. */
-static int is_refusal(uint64_t n) { return (n >= 1 && n <= 14 && n != 8) || n == VINGARBU_REFUSALS; }
+/* Numbers of refusals: 8 and 15 to 19 are none. */
+static int is_refusal(uint64_t n) { return (n >= 1 && n <= 14 && n != 8) || n == 20 || n == VINGARBU_REFUSALS; }
 
 /* Random bytes, none zero; or a part of good bytes, cut off and changed in a few places; or good bytes with records
  * of kinds 14, 5 and 6 behind them; or nothing. */

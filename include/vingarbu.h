@@ -25,7 +25,7 @@ extern "C" {
 /* Bounds of the paper. A book or a query with more is refused; a space may have any length. */
 #define VINGARBU_BYTES 65536u          /* of a book, and of a query */
 #define VINGARBU_ITEMS 8u              /* of a query */
-#define VINGARBU_REFUSALS 21u          /* the highest number of a refusal; 8 and 15 to 20 are none */
+#define VINGARBU_REFUSALS 21u          /* the highest number of a refusal; 8 and 15 to 19 are none */
 #define VINGARBU_UNIT_CELLS 8192u      /* the space of the unit */
 #define VINGARBU_UNIT_TEXT 98327u      /* bytes that every printed answer of at most 8,192 cells fits */
 #define VINGARBU_WORDS 32u             /* bytes that the words of every refusal fit */
@@ -72,7 +72,7 @@ uint32_t vingarbu_print(uint32_t serial, uint64_t rows, const uint8_t *kinds, si
 /* A few English words for the number of a refusal, without a line feed or a zero byte: docs/REFUSALS.md has the table.
  *   results  at least 1 cell, else VINGARBU_SHORT; the first is set to how many bytes the words are, the others stay.
  *   out      long enough for the words, else VINGARBU_SHORT; bytes behind them stay.
- * VINGARBU_NOT_FIT where the number is no refusal's: 0, 8, 15 to 20, or over 21. */
+ * VINGARBU_NOT_FIT where the number is no refusal's: 0, 8, 15 to 19, or over 21. */
 uint32_t vingarbu_refusal_text(uint32_t number, uint8_t *out, size_t out_len, uint64_t *results, size_t results_len);
 
 #ifdef __cplusplus

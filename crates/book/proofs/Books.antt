@@ -3,7 +3,7 @@
 -- Assumes nothing.
 use mathlib.Core.Path.{_≡_, refl, sym, ap, ap₂, _∙_}
 use mathlib.Core.Bool.{Bool, true, false, _||_}
-use mathlib.Core.Logic.{_⊎_, ⊎-elim}
+use mathlib.Core.Logic.{_⊎_, ⊎-elim, inl, inr}
 use mathlib.Core.List.{List, []}
 use Prim.Native.Nat.{ℕ, _≤_, _<_}
 use native.Mathlib.Omega.{arith}
@@ -21,7 +21,9 @@ use Rattle.book.specs.Reading.{bookWith, bookOf, stored}
 use Rattle.book.specs.declared.Book.{Book}
 use Rattle.book.specs.declared.Walked.{Walked}
 use Rattle.book.proofs.Lists.{stored-none}
-use Rattle.book.proofs.Outcomes.{records-number, read-over, read-within, after-end, after-fault}
+use Rattle.book.specs.Statements.{RecordNumber}
+use Rattle.book.proofs.Outcomes.{records-number, record-number-not, read-over, read-within}
+use Rattle.book.proofs.Outcomes.{after-end, after-fault}
 
 -- ---- a book whose records were all accepted
 
@@ -44,12 +46,13 @@ finished-book s rows e q =
 
 -- ---- the maximal objects by the number
 
-maximals-none : (o : Outcome) → 2 ≤ o .number → o .number ≤ 7 → maximalsOf o ≡ []
+maximals-none : (o : Outcome) → RecordNumber (o .number) → maximalsOf o ≡ []
 unfolding maximalsOf
-maximals-none o l u =
+maximals-none o r =
     ap (λ (t : Bool). elim t [ true ↦ maximalOf (o .scheme) | false ↦ [] ])
-    (or-no (or-no (ne-eqb (o .number) 0 (λ z. omega arith)) (ne-eqb (o .number) 21 (λ z. omega arith)))
-    (ne-eqb (o .number) 9 (λ z. omega arith)))
+    (or-no (or-no (ne-eqb (o .number) 0 (λ z. record-number-not r (inl (omega arith))))
+    (ne-eqb (o .number) 21 (λ z. record-number-not r (inr (inr z)))))
+    (ne-eqb (o .number) 9 (λ z. record-number-not r (inr (inl z)))))
 
 maximals-last : (s : Scheme) (rows : List ℕ)
     → maximalsOf (record { number = lastFault s; scheme = s; rows = rows }) ≡ maximalOf s
@@ -97,10 +100,9 @@ module _ (b : List ℕ) {w : Walked} (h : length b ≤ 65536) (e : w ≡ walkedO
   unfolding walkedOf bookOf
   book-stopped d q =
       let o = records b in
-      let range = ⊎-elim {B = (2 ≤ o .number) × (o .number ≤ 7)} (λ z. absurd (d (number-is ∙ z))) (λ p. p)
-      (records-number b) in
+      let some = ⊎-elim {B = RecordNumber (o .number)} (λ z. absurd (d (number-is ∙ z))) (λ p. p) (records-number b) in
       q ∙ ap (λ (x : Walked). bookWith (x .refusal) (x .rows) (x .scheme) []) e
-      ∙ ap (bookWith (o .number) (length (o .rows)) (o .scheme)) (sym (maximals-none o (range .0) (range .1)))
+      ∙ ap (bookWith (o .number) (length (o .rows)) (o .scheme)) (sym (maximals-none o some))
       ∙ ap bookOf (sym (read-within b h ∙ after-fault o (λ z. d (number-is ∙ z))))
 
   pub book-finished : {r : Book} → w .refusal ≡ 0

@@ -18,10 +18,13 @@ use Rattle.sets.proofs.Tests.{yes-no, yes-and, no-and, yes-or, no-or}
 use Rattle.sets.proofs.Bits.{in-out}
 use Rattle.sets.proofs.Sets.{yes-has, no-has}
 use Rattle.values.specs.Values.{inRange}
+use Rattle.values.specs.Table.{Rules, keepsRules}
+use Rattle.values.proofs.Table.{rules-tested}
+use Rattle.records.specs.Records.{masksOf}
 use Rattle.records.specs.Checks.{First}
 use Rattle.records.specs.declared.Record.{Record}
 use Rattle.records.specs.declared.Record.the-variants.{Attribute, Object, Dependency, Row, Declared, Removed}
-use Rattle.records.specs.declared.Record.the-variants.{OnlyDeclared, Item}
+use Rattle.records.specs.declared.Record.the-variants.{Comparisons, OnlyDeclared, Item}
 use Rattle.records.specs.declared.Record.the-variants.{CompareTwo, CompareConstant, End}
 use Rattle.records.proofs.Checks.{EachNumber, first-number, Same, Agree, ended, next, first-agrees, first-unique}
 use Rattle.records.proofs.Checks.{same-always, same-or}
@@ -32,6 +35,7 @@ use Rattle.book.specs.Faults.{someNonZero, someOutside, wrongCells, rowC
 use Rattle.book.specs.Faults.{faultOf}
 use Rattle.book.specs.Conditions.{NonZeroUnneeded, OutsideItsKind, rowConditions}
 use Rattle.book.specs.Conditions.{maximalConditions, conditions}
+use Rattle.book.specs.Statements.{RecordNumber}
 
 -- ---- a row's cells
 
@@ -131,6 +135,12 @@ maximal-agrees : (s : Scheme) (n set : ℕ) → Agree (maximalChecks s n set) (m
 unfolding maximalChecks maximalConditions
 maximal-agrees s n set = next (same-le 8 n) (next (same-empty set) (next (same-not-within set (s .objects)) ended))
 
+same-rules : (table : List ℕ) → Same (not (keepsRules table)) (Rules table → ⊥)
+same-rules table = record {
+  yes = λ e r. yes-no (rules-tested table .1 r) (not-true (keepsRules table) e);
+  no = λ e n. n (rules-tested table .0 (not-false (keepsRules table) e));
+}
+
 agrees : (s : Scheme) (r : Record) → Agree (checks s r) (conditions s r)
 unfolding checks conditions
 agrees s (Attribute id kind) =
@@ -144,6 +154,8 @@ agrees s (Dependency left right) =
 agrees s (Row object c0 c1 c2 c3 c4 c5) = row-agrees s object (c0 ∷ c1 ∷ c2 ∷ c3 ∷ c4 ∷ c5 ∷ [])
 agrees s (Declared set) = maximal-agrees s (s .declarations) set
 agrees s (Removed set) = maximal-agrees s (s .removals) set
+agrees s (Comparisons names lengths angles dates) =
+    next (same-le 1 (s .tables)) (next (same-rules (masksOf names lengths angles dates)) ended)
 agrees s OnlyDeclared = ended
 agrees s (Item variable attribute) = next same-always ended
 agrees s (CompareTwo variable attribute operator variable2 attribute2) = next same-always ended
@@ -159,24 +171,37 @@ fault-first s r = first-agrees (agrees s r)
 pub first-fault : (s : Scheme) (r : Record) {n : ℕ} → First (conditions s r) n → faultOf s r ≡ n
 first-fault s r f = first-unique (conditions s r) (fault-first s r) f
 
--- ---- its range: a fault is a number from 2 to 7
+-- ---- its range: a fault is a number from 2 to 7, or 20
 
-abbrev TwoToSeven : ℕ → Type 0
-TwoToSeven n = (2 ≤ n) × (n ≤ 7)
+two : RecordNumber 2
+two = inl (omega arith)
 
-between : (s : Scheme) (r : Record) → EachNumber TwoToSeven (conditions s r)
+four : RecordNumber 4
+four = inl (omega arith)
+
+five : RecordNumber 5
+five = inl (omega arith)
+
+six : RecordNumber 6
+six = inl (omega arith)
+
+seven : RecordNumber 7
+seven = inl (omega arith)
+
+between : (s : Scheme) (r : Record) → EachNumber RecordNumber (conditions s r)
 unfolding EachNumber conditions rowConditions maximalConditions
-between s (Attribute id kind) = omega arith
-between s (Object number set) = omega arith
-between s (Dependency left right) = omega arith
-between s (Row object c0 c1 c2 c3 c4 c5) = omega arith
-between s (Declared set) = omega arith
-between s (Removed set) = omega arith
+between s (Attribute id kind) = (five, (six, tt))
+between s (Object number set) = (five, (six, (seven, tt)))
+between s (Dependency left right) = (four, (five, (seven, tt)))
+between s (Row object c0 c1 c2 c3 c4 c5) = (five, (seven, (five, tt)))
+between s (Declared set) = (four, (five, (seven, tt)))
+between s (Removed set) = (four, (five, (seven, tt)))
+between s (Comparisons names lengths angles dates) = (four, (inr refl, tt))
 between s OnlyDeclared = tt
-between s (Item variable attribute) = omega arith
-between s (CompareTwo variable attribute operator variable2 attribute2) = omega arith
-between s (CompareConstant variable attribute operator cell) = omega arith
-between s End = omega arith
+between s (Item variable attribute) = (two, tt)
+between s (CompareTwo variable attribute operator variable2 attribute2) = (two, tt)
+between s (CompareConstant variable attribute operator cell) = (two, tt)
+between s End = (two, tt)
 
-pub fault-between : (s : Scheme) (r : Record) → (faultOf s r ≡ 0 → ⊥) → (2 ≤ faultOf s r) × (faultOf s r ≤ 7)
-fault-between s r d = first-number TwoToSeven (conditions s r) (faultOf s r) (between s r) (fault-first s r) d
+pub fault-between : (s : Scheme) (r : Record) → (faultOf s r ≡ 0 → ⊥) → RecordNumber (faultOf s r)
+fault-between s r d = first-number RecordNumber (conditions s r) (faultOf s r) (between s r) (fault-first s r) d

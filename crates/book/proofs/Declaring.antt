@@ -11,8 +11,10 @@ use lib.Dec.{ltb, leb}
 use lib.ListN.{getD}
 use types.Run.{OneOf, miss}
 use denote.Enum.Declared.{tagOf}
+use Rattle.values.specs.Table.{Rules, keepsRules}
+use Rattle.values.proofs.Table.{rules-tested}
 use Rattle.records.specs.Checks.{firstOf}
-use Rattle.records.specs.Records.{ofBook}
+use Rattle.records.specs.Records.{ofBook, masksOf}
 use Rattle.records.specs.Walking.{shortNumber}
 use Rattle.records.proofs.Record.{the-type}
 use Rattle.records.proofs.Reading as ReadingType
@@ -20,7 +22,7 @@ use Rattle.records.specs.declared.Reading.{Reading}
 use Rattle.records.specs.declared.Reading.the-variants.{Nothing, Unknown, Short, Found}
 use Rattle.records.specs.declared.Record.{Record}
 use Rattle.records.specs.declared.Record.the-variants.{Attribute, Object, Dependency, Row, Declared, Removed}
-use Rattle.records.specs.declared.Record.the-variants.{OnlyDeclared, Item}
+use Rattle.records.specs.declared.Record.the-variants.{Comparisons, OnlyDeclared, Item}
 use Rattle.records.specs.declared.Record.the-variants.{CompareTwo, CompareConstant, End}
 use Rattle.records.proofs.Checks.{none-first}
 use Rattle.scheme.specs.declared.Scheme.{Scheme}
@@ -145,17 +147,36 @@ row-accepted s object c0 c1 c2 c3 c4 c5 e =
     let right = none-first _ 5 [] (λ z. omega arith) (known .1) in
     record { declared = yes-has (s .objects) object (not-false (has (s .objects) object) (known .0)); right = right .0 }
 
+-- "Book kind 13, at most one", which keeps the rules
+pub record NewTable (s : Scheme) (names lengths angles dates : ℕ) : Type 0 where
+  pub room : s .tables < 1
+  pub rules : Rules (masksOf names lengths angles dates)
+
+pub table-accepted : (s : Scheme) (names lengths angles dates : ℕ)
+    → faultOf s (Comparisons names lengths angles dates) ≡ 0 → NewTable s names lengths angles dates
+unfolding faultOf checks
+table-accepted s names lengths angles dates e =
+    let room = none-first (leb 1 (s .tables)) 4 _ (λ z. omega arith) e in
+    let right = none-first (not (keepsRules (masksOf names lengths angles dates))) 20 [] (λ z. omega arith) (room .1) in
+    record {
+      room = leb-false 1 (s .tables) (room .0);
+      rules =
+          rules-tested (masksOf names lengths angles dates) .0
+          (not-false (keepsRules (masksOf names lengths angles dates)) (right .0));
+    }
+
 -- ---- the variants that add nothing
 
-pub adds-nothing : (s : Scheme) (r : Record) → OneOf (3 ∷ 7 ∷ 8 ∷ 9 ∷ 10 ∷ []) (tagOf the-type r) → s ≡ declare s r
+pub adds-nothing : (s : Scheme) (r : Record) → OneOf (3 ∷ 8 ∷ 9 ∷ 10 ∷ 11 ∷ []) (tagOf the-type r) → s ≡ declare s r
 unfolding declare
-adds-nothing s (Attribute id kind) h = absurd (miss (3 ∷ 7 ∷ 8 ∷ 9 ∷ 10 ∷ []) 0 tt h)
-adds-nothing s (Object number set) h = absurd (miss (3 ∷ 7 ∷ 8 ∷ 9 ∷ 10 ∷ []) 1 tt h)
-adds-nothing s (Dependency left right) h = absurd (miss (3 ∷ 7 ∷ 8 ∷ 9 ∷ 10 ∷ []) 2 tt h)
+adds-nothing s (Attribute id kind) h = absurd (miss (3 ∷ 8 ∷ 9 ∷ 10 ∷ 11 ∷ []) 0 tt h)
+adds-nothing s (Object number set) h = absurd (miss (3 ∷ 8 ∷ 9 ∷ 10 ∷ 11 ∷ []) 1 tt h)
+adds-nothing s (Dependency left right) h = absurd (miss (3 ∷ 8 ∷ 9 ∷ 10 ∷ 11 ∷ []) 2 tt h)
 adds-nothing s (Row object c0 c1 c2 c3 c4 c5) h = refl
-adds-nothing s (Declared set) h = absurd (miss (3 ∷ 7 ∷ 8 ∷ 9 ∷ 10 ∷ []) 4 tt h)
-adds-nothing s (Removed set) h = absurd (miss (3 ∷ 7 ∷ 8 ∷ 9 ∷ 10 ∷ []) 5 tt h)
-adds-nothing s OnlyDeclared h = absurd (miss (3 ∷ 7 ∷ 8 ∷ 9 ∷ 10 ∷ []) 6 tt h)
+adds-nothing s (Declared set) h = absurd (miss (3 ∷ 8 ∷ 9 ∷ 10 ∷ 11 ∷ []) 4 tt h)
+adds-nothing s (Removed set) h = absurd (miss (3 ∷ 8 ∷ 9 ∷ 10 ∷ 11 ∷ []) 5 tt h)
+adds-nothing s (Comparisons names lengths angles dates) h = absurd (miss (3 ∷ 8 ∷ 9 ∷ 10 ∷ 11 ∷ []) 6 tt h)
+adds-nothing s OnlyDeclared h = absurd (miss (3 ∷ 8 ∷ 9 ∷ 10 ∷ 11 ∷ []) 7 tt h)
 adds-nothing s (Item variable attribute) h = refl
 adds-nothing s (CompareTwo variable attribute operator variable2 attribute2) h = refl
 adds-nothing s (CompareConstant variable attribute operator cell) h = refl
@@ -163,14 +184,15 @@ adds-nothing s End h = refl
 
 -- ---- rows
 
-pub not-a-row : (r : Record) → OneOf (0 ∷ 1 ∷ 2 ∷ 4 ∷ 5 ∷ 6 ∷ 7 ∷ 8 ∷ 9 ∷ 10 ∷ []) (tagOf the-type r) → false ≡ isRow r
+pub not-a-row : (r : Record) → OneOf (0 ∷ 1 ∷ 2 ∷ 4 ∷ 5 ∷ 6 ∷ 7 ∷ 8 ∷ 9 ∷ 10 ∷ 11 ∷ []) (tagOf the-type r) → false ≡ isRow r
 unfolding isRow
 not-a-row (Attribute id kind) h = refl
 not-a-row (Object number set) h = refl
 not-a-row (Dependency left right) h = refl
-not-a-row (Row object c0 c1 c2 c3 c4 c5) h = absurd (miss (0 ∷ 1 ∷ 2 ∷ 4 ∷ 5 ∷ 6 ∷ 7 ∷ 8 ∷ 9 ∷ 10 ∷ []) 3 tt h)
+not-a-row (Row object c0 c1 c2 c3 c4 c5) h = absurd (miss (0 ∷ 1 ∷ 2 ∷ 4 ∷ 5 ∷ 6 ∷ 7 ∷ 8 ∷ 9 ∷ 10 ∷ 11 ∷ []) 3 tt h)
 not-a-row (Declared set) h = refl
 not-a-row (Removed set) h = refl
+not-a-row (Comparisons names lengths angles dates) h = refl
 not-a-row OnlyDeclared h = refl
 not-a-row (Item variable attribute) h = refl
 not-a-row (CompareTwo variable attribute operator variable2 attribute2) h = refl
@@ -179,15 +201,16 @@ not-a-row End h = refl
 
 -- ---- the kinds of a query
 
-pub not-of-a-book : (s : Scheme) (r : Record) → OneOf (7 ∷ 8 ∷ 9 ∷ 10 ∷ []) (tagOf the-type r) → 2 ≡ faultOf s r
+pub not-of-a-book : (s : Scheme) (r : Record) → OneOf (8 ∷ 9 ∷ 10 ∷ 11 ∷ []) (tagOf the-type r) → 2 ≡ faultOf s r
 unfolding faultOf checks firstOf
-not-of-a-book s (Attribute id kind) h = absurd (miss (7 ∷ 8 ∷ 9 ∷ 10 ∷ []) 0 tt h)
-not-of-a-book s (Object number set) h = absurd (miss (7 ∷ 8 ∷ 9 ∷ 10 ∷ []) 1 tt h)
-not-of-a-book s (Dependency left right) h = absurd (miss (7 ∷ 8 ∷ 9 ∷ 10 ∷ []) 2 tt h)
-not-of-a-book s (Row object c0 c1 c2 c3 c4 c5) h = absurd (miss (7 ∷ 8 ∷ 9 ∷ 10 ∷ []) 3 tt h)
-not-of-a-book s (Declared set) h = absurd (miss (7 ∷ 8 ∷ 9 ∷ 10 ∷ []) 4 tt h)
-not-of-a-book s (Removed set) h = absurd (miss (7 ∷ 8 ∷ 9 ∷ 10 ∷ []) 5 tt h)
-not-of-a-book s OnlyDeclared h = absurd (miss (7 ∷ 8 ∷ 9 ∷ 10 ∷ []) 6 tt h)
+not-of-a-book s (Attribute id kind) h = absurd (miss (8 ∷ 9 ∷ 10 ∷ 11 ∷ []) 0 tt h)
+not-of-a-book s (Object number set) h = absurd (miss (8 ∷ 9 ∷ 10 ∷ 11 ∷ []) 1 tt h)
+not-of-a-book s (Dependency left right) h = absurd (miss (8 ∷ 9 ∷ 10 ∷ 11 ∷ []) 2 tt h)
+not-of-a-book s (Row object c0 c1 c2 c3 c4 c5) h = absurd (miss (8 ∷ 9 ∷ 10 ∷ 11 ∷ []) 3 tt h)
+not-of-a-book s (Declared set) h = absurd (miss (8 ∷ 9 ∷ 10 ∷ 11 ∷ []) 4 tt h)
+not-of-a-book s (Removed set) h = absurd (miss (8 ∷ 9 ∷ 10 ∷ 11 ∷ []) 5 tt h)
+not-of-a-book s (Comparisons names lengths angles dates) h = absurd (miss (8 ∷ 9 ∷ 10 ∷ 11 ∷ []) 6 tt h)
+not-of-a-book s OnlyDeclared h = absurd (miss (8 ∷ 9 ∷ 10 ∷ 11 ∷ []) 7 tt h)
 not-of-a-book s (Item variable attribute) h = refl
 not-of-a-book s (CompareTwo variable attribute operator variable2 attribute2) h = refl
 not-of-a-book s (CompareConstant variable attribute operator cell) h = refl

@@ -1,5 +1,6 @@
 -- Worked examples: what reading gives beside what the paper says, in one list under one theorem.
--- In order: the unit's book, three objects in a ring, small books, the trials, what books declare, tables.
+-- In order: the unit's book, three objects in a ring, comparison tables, small books, the trials, what books declare,
+-- tables.
 -- Assumes nothing.
 use mathlib.Core.Path.{_≡_, refl}
 use mathlib.Core.List.{List, [], _∷_, _++_, map, flatMap}
@@ -7,6 +8,7 @@ use Prim.Native.Nat.{ℕ}
 use lib.ListN.{length, take}
 use Rattle.sets.specs.Sets.{bit, has, within, _∩_, _∪_, _∖_, single, isEmpty, rank, members}
 use Rattle.values.specs.Values.{inRange}
+use Rattle.values.specs.Table.{builtIn, mirrored, entryKeeps, everyBelow, keepsRules}
 use Rattle.reduction.specs.Kept.{union, around, someHolds, removable, stays, staying, settle, left, acyclic, goesFor}
 use Rattle.reduction.specs.Kept.{goes, keeps, keptOf}
 use Rattle.records.specs.Fields.{bytes, value, field}
@@ -16,7 +18,7 @@ use Rattle.records.specs.Checks.{firstOf}
 use Rattle.records.specs.Walking.{shortNumber, walkFrom, walk}
 use Rattle.records.specs.declared.Record.{Record}
 use Rattle.records.specs.declared.Record.the-variants.{Attribute, Object, Dependency, Row, Declared, Removed}
-use Rattle.records.specs.declared.Record.the-variants.{OnlyDeclared, Item}
+use Rattle.records.specs.declared.Record.the-variants.{Comparisons, OnlyDeclared, Item}
 use Rattle.relation.specs.Tables.{cellOf, Table}
 use Rattle.scheme.specs.declared.Scheme.{Scheme}
 use Rattle.scheme.specs.Dependencies.{pass, passes, closure}
@@ -27,7 +29,7 @@ use Rattle.scheme.specs.OfScheme.{pairs, computedOf, maximalOf, bothOf, cyclicO
 use Rattle.book.specs.Faults.{someNonZero, someOutside, wrongCells, rowChecks, maximalChecks}
 use Rattle.book.specs.Faults.{checks, faultOf}
 use Rattle.book.specs.Declaring.{nothingDeclared, withAttribute, withObject, withDependency, withDeclared}
-use Rattle.book.specs.Declaring.{withRemoved, withOnly, declare}
+use Rattle.book.specs.Declaring.{withRemoved, withTable, withOnly, declare}
 use Rattle.book.specs.Reading.{Outcome, isRow, withRow, records, lastFault, afterLast}
 use Rattle.book.specs.Reading.{lastNumber, read, maximalsOf}
 use Rattle.book.specs.TablesOf.{cellsOf, rowOf, rowsOf, tablesOf}
@@ -53,6 +55,15 @@ ring =
     Attribute 0 0 ∷ Attribute 1 0 ∷ Attribute 2 0 ∷ Object 0 3 ∷ Object 1 6 ∷ Object 2 5
     ∷ Dependency 1 2 ∷ Dependency 2 4 ∷ []
 
+-- ---- comparison tables: the built-in one as a record, a word for each left kind, and a club's own, which has all six
+-- operators between names and dates too
+
+unfoldable pub asBuiltIn : Record
+asBuiltIn = Comparisons 3 16128 196608 1056964608
+
+unfoldable pub ofClub : Record
+ofClub = Comparisons 1056964611 16128 196608 1056964671
+
 -- ---- small books: an angle with an object of it, and eight maximal objects declared
 
 unfoldable pub angles : List Record
@@ -69,7 +80,7 @@ mixed =
     Attribute 4 0 ∷ Attribute 1 2 ∷ Attribute 0 3 ∷ Attribute 2 1
     ∷ Object 3 19 ∷ Object 1 6
     ∷ Dependency 1 2 ∷ Dependency 4 16
-    ∷ Declared 8 ∷ Declared 10 ∷ Removed 2 ∷ []
+    ∷ Declared 8 ∷ Declared 10 ∷ Removed 2 ∷ ofClub ∷ []
 
 -- ---- the trials
 
@@ -105,28 +116,46 @@ trials =
     ∷ record { gives = book (angles ++ Row 0 35999 0 0 0 0 0 ∷ []); says = 0 ∷ 1 ∷ 1 ∷ [] }
     ∷ record { gives = book (angles ++ Row 0 36000 0 0 0 0 0 ∷ []); says = 5 ∷ 0 ∷ [] }  -- "an angle over 35,999"
     ∷ record { gives = book (angles ++ Row 0 0 0 0 0 0 1 ∷ []); says = 5 ∷ 0 ∷ [] }  -- "a non-zero unneeded cell"
+    ∷ record { gives = book (angles ++ asBuiltIn ∷ []); says = 0 ∷ 0 ∷ 1 ∷ [] }  -- a table that keeps the rules
+    ∷ record { gives = book (ofClub ∷ angles); says = 0 ∷ 0 ∷ 1 ∷ [] }
+    -- less between names and dates, and greater between dates and names
+    ∷ record { gives = book (Comparisons 67108867 16128 196608 1056964624 ∷ []); says = 0 ∷ 0 ∷ [] }
+    -- "at most one (else 4)", also where the second breaks the rules
+    ∷ record { gives = book (ofClub ∷ asBuiltIn ∷ []); says = 4 ∷ 0 ∷ [] }
+    ∷ record { gives = book (ofClub ∷ Comparisons 2 16128 196608 1056964608 ∷ []); says = 4 ∷ 0 ∷ [] }
+    -- "20 a table that breaks this": bit 6 within lengths; less between names and dates, and nothing between dates and
+    -- names; no equal within names, lengths, angles, dates
+    ∷ record { gives = book (Comparisons 3 32512 196608 1056964608 ∷ []); says = 20 ∷ 0 ∷ [] }
+    ∷ record { gives = book (Comparisons 67108867 16128 196608 1056964608 ∷ []); says = 20 ∷ 0 ∷ [] }
+    ∷ record { gives = book (Comparisons 2 16128 196608 1056964608 ∷ []); says = 20 ∷ 0 ∷ [] }
+    ∷ record { gives = book (Comparisons 3 15872 196608 1056964608 ∷ []); says = 20 ∷ 0 ∷ [] }
+    ∷ record { gives = book (Comparisons 3 16128 131072 1056964608 ∷ []); says = 20 ∷ 0 ∷ [] }
+    ∷ record { gives = book (Comparisons 3 16128 196608 1040187392 ∷ []); says = 20 ∷ 0 ∷ [] }
+    ∷ record { gives = result (13 ∷ 3 ∷ 0 ∷ 0 ∷ 0 ∷ []); says = 3 ∷ 0 ∷ [] }  -- a table cut short
     ∷ []
 
 pub trials-hold : map (λ t. t .gives) trials ≡ map (λ t. t .says) trials
-unfolding trials survey ring angles eight result read afterLast lastFault lastNumber records walk walkFrom shortNumber
-    withRow isRow maximalsOf declare withOnly withRemoved withDeclared withDependency withObject withAttribute
-    nothingDeclared faultOf checks maximalChecks rowChecks wrongCells someOutside someNonZero firstOf ofBook cyclicOf
-    bothOf maximalOf computedOf pairs someCyclic counted bothKinds maximalObjects adding removing isOne computed grown
-    rounds holding joins attributesOf familyOf closure passes pass cellOf readAt readFront recordOf bodies bytesOfAll
-    bytesOf kindOf bodyLength isKind whose kinds field value bytes keptOf keeps goes goesFor acyclic left settle
-    staying stays removable someHolds around union inRange members rank isEmpty single _∖_ _∪_ _∩_ within has bit
+unfolding trials survey ring angles eight asBuiltIn ofClub result read afterLast lastFault lastNumber records walk
+    walkFrom shortNumber withRow isRow maximalsOf declare withOnly withTable withRemoved withDeclared withDependency
+    withObject withAttribute nothingDeclared keepsRules everyBelow entryKeeps mirrored builtIn faultOf checks
+    maximalChecks rowChecks wrongCells someOutside someNonZero firstOf ofBook cyclicOf bothOf maximalOf computedOf pairs
+    someCyclic counted bothKinds maximalObjects adding removing isOne computed grown rounds holding joins attributesOf
+    familyOf closure passes pass cellOf readAt readFront recordOf bodies bytesOfAll bytesOf kindOf bodyLength isKind
+    whose kinds field value bytes keptOf keeps goes goesFor acyclic left settle staying stays removable someHolds around
+    union inRange members rank isEmpty single _∖_ _∪_ _∩_ within has bit
 trials-hold = refl
 
 -- ---- what books declare: value kinds, the sets of objects, both sides of the dependencies, kind 5 and kind 6 sets,
--- each with a place more; the sets of attributes and objects and the counts; the positions of the rows
+-- each with a place more; the comparison table; the sets of attributes and objects and the counts; the positions of the
+-- rows
 
 unfoldable pub declares : List Record → List (List ℕ)
 declares rs =
     let o : Outcome = read (bytesOfAll rs) in
     let s : Scheme = o .scheme in
     take 6 (s .kinds) ∷ take 5 (s .sets) ∷ take 3 (s .left) ∷ take 3 (s .right) ∷ take 3 (s .declared)
-    ∷ take 2 (s .removed)
-    ∷ (s .attributes ∷ s .objects ∷ s .dependencies ∷ s .declarations ∷ s .removals ∷ [])
+    ∷ take 2 (s .removed) ∷ s .table
+    ∷ (s .attributes ∷ s .objects ∷ s .dependencies ∷ s .declarations ∷ s .removals ∷ s .tables ∷ [])
     ∷ o .rows ∷ []
 
 -- ---- tables: for each object of M its set, then its rows
@@ -151,7 +180,9 @@ layouts =
       gives = declares survey;
       says =
           (0 ∷ 0 ∷ 0 ∷ 1 ∷ 0 ∷ 0 ∷ []) ∷ (3 ∷ 5 ∷ 9 ∷ 0 ∷ 0 ∷ []) ∷ (1 ∷ 1 ∷ 0 ∷ []) ∷ (4 ∷ 8 ∷ 0 ∷ [])
-          ∷ (0 ∷ 0 ∷ 0 ∷ []) ∷ (0 ∷ 0 ∷ []) ∷ (15 ∷ 7 ∷ 2 ∷ 0 ∷ 0 ∷ [])
+          ∷ (0 ∷ 0 ∷ 0 ∷ []) ∷ (0 ∷ 0 ∷ [])
+          ∷ (3 ∷ 0 ∷ 0 ∷ 0 ∷ 0 ∷ 63 ∷ 0 ∷ 0 ∷ 0 ∷ 0 ∷ 3 ∷ 0 ∷ 0 ∷ 0 ∷ 0 ∷ 63 ∷ [])
+          ∷ (15 ∷ 7 ∷ 2 ∷ 0 ∷ 0 ∷ 0 ∷ [])
           ∷ (48 ∷ 74 ∷ 100 ∷ 126 ∷ 152 ∷ 178 ∷ 204 ∷ 230 ∷ []) ∷ [];
     }
     ∷ record {
@@ -165,17 +196,19 @@ layouts =
       gives = declares mixed;
       says =
           (3 ∷ 2 ∷ 1 ∷ 0 ∷ 0 ∷ 0 ∷ []) ∷ (0 ∷ 6 ∷ 0 ∷ 19 ∷ 0 ∷ []) ∷ (1 ∷ 4 ∷ 0 ∷ []) ∷ (2 ∷ 16 ∷ 0 ∷ [])
-          ∷ (8 ∷ 10 ∷ 0 ∷ []) ∷ (2 ∷ 0 ∷ []) ∷ (23 ∷ 10 ∷ 2 ∷ 2 ∷ 1 ∷ []) ∷ [] ∷ [];
+          ∷ (8 ∷ 10 ∷ 0 ∷ []) ∷ (2 ∷ 0 ∷ [])
+          ∷ (3 ∷ 0 ∷ 0 ∷ 63 ∷ 0 ∷ 63 ∷ 0 ∷ 0 ∷ 0 ∷ 0 ∷ 3 ∷ 0 ∷ 63 ∷ 0 ∷ 0 ∷ 63 ∷ [])
+          ∷ (23 ∷ 10 ∷ 2 ∷ 2 ∷ 1 ∷ 1 ∷ []) ∷ [] ∷ [];
     }
     ∷ []
 
 pub layouts-hold : map (λ l. l .gives) layouts ≡ map (λ l. l .says) layouts
-unfolding layouts declares tables flatMap tablesOf rowsOf rowOf cellsOf survey mixed read afterLast lastFault lastNumber
-    records walk walkFrom shortNumber withRow isRow declare withOnly withRemoved withDeclared withDependency withObject
-    withAttribute nothingDeclared faultOf checks maximalChecks rowChecks wrongCells someOutside someNonZero firstOf
-    ofBook cyclicOf bothOf maximalOf computedOf pairs someCyclic counted bothKinds maximalObjects adding removing isOne
-    computed grown rounds holding joins attributesOf familyOf closure passes pass cellOf readAt readFront recordOf
-    bodies bytesOfAll bytesOf kindOf bodyLength isKind whose kinds field value bytes keptOf keeps goes goesFor acyclic
-    left settle staying stays removable someHolds around union inRange members rank isEmpty single _∖_ _∪_ _∩_ within
-    has bit
+unfolding layouts declares tables flatMap tablesOf rowsOf rowOf cellsOf survey mixed ofClub read afterLast lastFault
+    lastNumber records walk walkFrom shortNumber withRow isRow declare withOnly withTable withRemoved withDeclared
+    withDependency withObject withAttribute nothingDeclared keepsRules everyBelow entryKeeps mirrored builtIn faultOf
+    checks maximalChecks rowChecks wrongCells someOutside someNonZero firstOf ofBook cyclicOf bothOf maximalOf
+    computedOf pairs someCyclic counted bothKinds maximalObjects adding removing isOne computed grown rounds holding
+    joins attributesOf familyOf closure passes pass cellOf readAt readFront recordOf bodies bytesOfAll bytesOf kindOf
+    bodyLength isKind whose kinds field value bytes keptOf keeps goes goesFor acyclic left settle staying stays
+    removable someHolds around union inRange members rank isEmpty single _∖_ _∪_ _∩_ within has bit
 layouts-hold = refl

@@ -19,7 +19,7 @@ use Rattle.records.specs.Walking as Walking
 use Rattle.records.specs.Walking.{Sound, Stop, notAllowed, cutShort, wrong, StopsAt}
 use Rattle.records.specs.declared.Record.{Record}
 use Rattle.records.specs.declared.Record.the-variants.{Attribute, Object, Dependency, Row, Declared, Removed}
-use Rattle.records.specs.declared.Record.the-variants.{OnlyDeclared, Item}
+use Rattle.records.specs.declared.Record.the-variants.{Comparisons, OnlyDeclared, Item}
 use Rattle.records.specs.declared.Record.the-variants.{CompareTwo, CompareConstant, End}
 use Rattle.records.proofs.Walking.{walk-stops, stops-walk}
 use Rattle.scheme.specs.declared.Scheme.{Scheme}
@@ -29,7 +29,7 @@ use Rattle.book.specs.Declaring.{nothingDeclared}
 use Rattle.book.specs.Reading.{Outcome, Held, nothingHeld, bookRules, outcomeOf, records, lastNumber, lastFault}
 use Rattle.book.specs.Reading.{afterLast, read}
 use Rattle.book.specs.Accepting.{Faulty, AtLast, both, cyclic, good, Stops, faulty, atEnd}
-use Rattle.book.specs.Statements.{StopsWith, FaultyRecord, AcceptedWhole}
+use Rattle.book.specs.Statements.{StopsWith, FaultyRecord, AcceptedWhole, RecordNumber}
 use Rattle.book.proofs.Conditions.{fault-between}
 
 -- ---- the rules of a book
@@ -47,6 +47,7 @@ fault-not-of-book s (Dependency left right) e = absurd (yes-no refl e)
 fault-not-of-book s (Row object c0 c1 c2 c3 c4 c5) e = absurd (yes-no refl e)
 fault-not-of-book s (Declared set) e = absurd (yes-no refl e)
 fault-not-of-book s (Removed set) e = absurd (yes-no refl e)
+fault-not-of-book s (Comparisons names lengths angles dates) e = absurd (yes-no refl e)
 fault-not-of-book s OnlyDeclared e = absurd (yes-no refl e)
 fault-not-of-book s (Item variable attribute) e = refl
 fault-not-of-book s (CompareTwo variable attribute operator variable2 attribute2) e = refl
@@ -58,20 +59,28 @@ bookSound = record { known = no-kind-no-book; others = λ h r. fault-not-of-book
 
 -- ---- the numbers of the walk
 
-faulty-between : (s : Scheme) {b : List ℕ} {at n : ℕ} → Faulty b s at n → (2 ≤ n) × (n ≤ 7)
-faulty-between s (notAllowed h e) = omega arith
-faulty-between s (cutShort y c) = omega arith
+faulty-between : (s : Scheme) {b : List ℕ} {at n : ℕ} → Faulty b s at n → RecordNumber n
+faulty-between s (notAllowed h e) = inl (omega arith)
+faulty-between s (cutShort y c) = inl (omega arith)
 faulty-between s (wrong {r = r} w y e d) =
-    let p = fault-between s r (λ z. d (sym e ∙ z)) in
-    omega arith
+    subst RecordNumber e (fault-between s r (λ z. d (sym e ∙ z)))
+
+-- which is neither 0 or 1 nor a number after the last record
+pub record-number-not : {n : ℕ} → RecordNumber n → (n ≤ 1) ⊎ ((n ≡ 9) ⊎ (n ≡ 21)) → ⊥
+record-number-not (inl p) (inl h) = omega arith
+record-number-not (inl p) (inr (inl e)) = omega arith
+record-number-not (inl p) (inr (inr e)) = omega arith
+record-number-not (inr p) (inl h) = omega arith
+record-number-not (inr p) (inr (inl e)) = omega arith
+record-number-not (inr p) (inr (inr e)) = omega arith
 
 walk-number : {b : List ℕ} {w : Stop Held} → StopsAt bookRules b nothingHeld w
-    → (w .number ≡ 0) ⊎ ((2 ≤ w .number) × (w .number ≤ 7))
+    → (w .number ≡ 0) ⊎ RecordNumber (w .number)
 walk-number (Walking.faulty {s = h} a f) = inr (faulty-between (h .scheme) f)
 walk-number (Walking.atEnd a l) = inl refl
 walk-number (Walking.atLast a e f l) = inl refl
 
-pub records-number : (b : List ℕ) → (records b .number ≡ 0) ⊎ ((2 ≤ records b .number) × (records b .number ≤ 7))
+pub records-number : (b : List ℕ) → (records b .number ≡ 0) ⊎ RecordNumber (records b .number)
 unfolding records
 records-number b = walk-number (walk-stops bookRules bookSound b nothingHeld)
 
@@ -143,7 +152,7 @@ walk-stops-with : {b : List ℕ} {w : Stop Held} → StopsAt bookRules b nothing
 walk-stops-with {b} (Walking.faulty {rs = rs} {s = h} {at = at} {n = n} a f) =
     subst (StopsWith b)
     (sym (after-fault (record { number = n; scheme = h .scheme; rows = h .rows })
-    (λ z. absurd (omega (arith, faulty-between (h .scheme) f)))))
+    (λ z. record-number-not (faulty-between (h .scheme) f) (inl (omega arith)))))
     (record { passed = rs; at = at; accepted = a; stops = faulty f })
 walk-stops-with {b} (Walking.atEnd {rs = rs} {s = h} {at = at} a l) =
     subst (StopsWith b) (sym (after-end (record { number = 0; scheme = h .scheme; rows = h .rows }) refl))
@@ -166,7 +175,7 @@ stops-read b o h w = read-within b h ∙ by (w .stops)
     by : Stops b (o .scheme) (w .at) (o .number) → afterLast (records b) ≡ o
     by (faulty f) =
         walked (Walking.faulty (w .accepted) f)
-        ∙ after-fault o (λ z. absurd (omega (arith, faulty-between (o .scheme) f)))
+        ∙ after-fault o (λ z. record-number-not (faulty-between (o .scheme) f) (inl (omega arith)))
     by (atEnd l t) =
         walked (Walking.atEnd (w .accepted) l)
         ∙ after-end (record { number = 0; scheme = o .scheme; rows = o .rows }) refl
@@ -179,19 +188,17 @@ at-last-number (both p) = inr (inr refl)
 at-last-number (cyclic p q) = inr (inl refl)
 at-last-number (good p q) = inl refl
 
--- after the last record: 0, or more than the faults of records
-at-last-high : {s : Scheme} {n : ℕ} → AtLast s n → (n ≡ 0) ⊎ (9 ≤ n)
-at-last-high t = ⊎-elim inl (λ p. inr (⊎-elim (λ e. omega arith) (λ e. omega arith) p)) (at-last-number t)
-
-pub number-one-of : (b : List ℕ) → (read b .number ≤ 7) ⊎ ((read b .number ≡ 9) ⊎ (read b .number ≡ 21))
+pub number-one-of : (b : List ℕ)
+    → (read b .number ≤ 7) ⊎ ((read b .number ≡ 9) ⊎ ((read b .number ≡ 20) ⊎ (read b .number ≡ 21)))
 number-one-of b =
     ⊎-elim (λ h. inl (omega (arith, ap (λ (o : Outcome). o .number) (read-over b h))))
     (λ h. within (read-stops b h .stops)) (lt-or-le 65536 (length b))
   where
     within : {at : ℕ} → Stops b (read b .scheme) at (read b .number)
-        → (read b .number ≤ 7) ⊎ ((read b .number ≡ 9) ⊎ (read b .number ≡ 21))
-    within (faulty f) = inl (faulty-between (read b .scheme) f .1)
-    within (atEnd l t) = ⊎-elim (λ z. inl (omega arith)) inr (at-last-number t)
+        → (read b .number ≤ 7) ⊎ ((read b .number ≡ 9) ⊎ ((read b .number ≡ 20) ⊎ (read b .number ≡ 21)))
+    within (faulty f) = ⊎-elim (λ p. inl (p .1)) (λ e. inr (inr (inl e))) (faulty-between (read b .scheme) f)
+    within (atEnd l t) =
+        ⊎-elim (λ z. inl (omega arith)) (λ p. inr (⊎-elim inl (λ e. inr (inr e)) p)) (at-last-number t)
 
 pub number-over : (b : List ℕ) → 65536 < length b → read b .number ≡ 1
 number-over b h = ap (λ (o : Outcome). o .number) (read-over b h)
@@ -200,15 +207,17 @@ pub number-not-one : (b : List ℕ) → length b ≤ 65536 → read b .number �
 number-not-one b h e = within (read-stops b h .stops)
   where
     within : {at : ℕ} → Stops b (read b .scheme) at (read b .number) → ⊥
-    within (faulty f) = absurd (omega (arith, faulty-between (read b .scheme) f))
-    within (atEnd l t) = ⊎-elim (λ z. absurd (omega arith)) (λ p. absurd (omega arith)) (at-last-high t)
+    within (faulty f) = record-number-not (faulty-between (read b .scheme) f) (inl (omega arith))
+    within (atEnd l t) =
+        ⊎-elim (λ z. absurd (omega arith)) (λ p. ⊎-elim (λ z. absurd (omega arith)) (λ z. absurd (omega arith)) p)
+        (at-last-number t)
 
 -- a number other than 1 comes from a book that is not too long
 pub number-within : (b : List ℕ) → (read b .number ≡ 1 → ⊥) → length b ≤ 65536
 number-within b d = ⊎-elim (λ h. absurd (d (number-over b h))) (λ h. h) (lt-or-le 65536 (length b))
 
-pub number-faulty : (b : List ℕ) (n : ℕ) → 2 ≤ n → n ≤ 7 → length b ≤ 65536 → read b .number ≡ n → FaultyRecord b n
-number-faulty b n l u h e = within (read-stops b h)
+pub number-faulty : (b : List ℕ) (n : ℕ) → RecordNumber n → length b ≤ 65536 → read b .number ≡ n → FaultyRecord b n
+number-faulty b n r h e = within (read-stops b h)
   where
     within : StopsWith b (read b) → FaultyRecord b n
     within w = by (w .stops)
@@ -222,7 +231,10 @@ number-faulty b n l u h e = within (read-stops b h)
           accepted = w .accepted;
           faulty = subst (Faulty b (read b .scheme) (w .at)) e f;
         }
-        by (atEnd x t) = ⊎-elim (λ z. absurd (omega arith)) (λ p. absurd (omega arith)) (at-last-high t)
+        by (atEnd x t) =
+            absurd (record-number-not r
+            (⊎-elim (λ z. inl (omega arith)) (λ p. inr (⊎-elim (λ z. inl (sym e ∙ z)) (λ z. inr (sym e ∙ z)) p))
+            (at-last-number t)))
 
 pub faulty-number : (b : List ℕ) (n : ℕ) → length b ≤ 65536 → FaultyRecord b n → read b .number ≡ n
 faulty-number b n h f =
@@ -235,10 +247,11 @@ pub good-last : (b : List ℕ) → read b .number ≡ 0 → AtLast (read b .sche
 good-last b e = by (read-stops b (number-within b (λ z. omega arith)) .stops)
   where
     by : {at : ℕ} → Stops b (read b .scheme) at (read b .number) → AtLast (read b .scheme) 0
-    by (faulty f) = absurd (omega (arith, faulty-between (read b .scheme) f))
+    by (faulty f) = absurd (record-number-not (faulty-between (read b .scheme) f) (inl (omega arith)))
     by (atEnd x t) = subst (AtLast (read b .scheme)) e t
 
-pub number-whole : (b : List ℕ) (n : ℕ) → (n ≡ 0) ⊎ (8 ≤ n) → length b ≤ 65536 → read b .number ≡ n → AcceptedWhole b n
+pub number-whole : (b : List ℕ) (n : ℕ) → (n ≤ 1) ⊎ ((n ≡ 9) ⊎ (n ≡ 21)) → length b ≤ 65536 → read b .number ≡ n
+    → AcceptedWhole b n
 number-whole b n c h e = within (read-stops b h)
   where
     within : StopsWith b (read b) → AcceptedWhole b n
@@ -246,8 +259,7 @@ number-whole b n c h e = within (read-stops b h)
       where
         by : Stops b (read b .scheme) (w .at) (read b .number) → AcceptedWhole b n
         by (faulty f) =
-            let range = faulty-between (read b .scheme) f in
-            absurd (⊎-elim (λ z. omega arith) (λ z. omega arith) c)
+            absurd (record-number-not (subst RecordNumber e (faulty-between (read b .scheme) f)) c)
         by (atEnd x t) = record {
           passed = w .passed;
           scheme = read b .scheme;

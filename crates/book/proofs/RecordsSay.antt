@@ -26,7 +26,7 @@ use Rattle.records.specs.Reader.{bodies, recordOf, readAt, Reads, done, more}
 use Rattle.records.specs.Walking.{none, one}
 use Rattle.records.specs.declared.Record.{Record}
 use Rattle.records.specs.declared.Record.the-variants.{Attribute, Object, Dependency, Row, Declared, Removed}
-use Rattle.records.specs.declared.Record.the-variants.{OnlyDeclared, Item}
+use Rattle.records.specs.declared.Record.the-variants.{Comparisons, OnlyDeclared, Item}
 use Rattle.records.specs.declared.Record.the-variants.{CompareTwo, CompareConstant, End}
 use Rattle.records.specs.declared.Reading.the-variants.{Found}
 use Rattle.records.proofs.Fields.{field-drop}
@@ -39,7 +39,7 @@ use Rattle.scheme.specs.OfScheme.{pairs, dependenciesOf, declaredOf, removedOf}
 use Rattle.book.specs.Faults.{faultOf}
 use Rattle.book.specs.Declaring.{nothingDeclared, declare, withAttribute, withObject, withDependency}
 use Rattle.book.specs.Declaring.{withDeclared}
-use Rattle.book.specs.Declaring.{withRemoved, withOnly}
+use Rattle.book.specs.Declaring.{withRemoved, withTable, withOnly}
 use Rattle.book.specs.Reading.{Outcome, Held, isRow, withRow}
 use Rattle.book.specs.Accepting.{AcceptedAs}
 use Rattle.book.specs.WellFormed.{WellFormed}
@@ -48,11 +48,13 @@ use Rattle.records.specs.Gathered.{Gathered, ended}
 use Rattle.records.proofs.Gathered.{gathered-more, gathered-same}
 use Rattle.book.specs.RecordsSay.{SaysDependency, SaysDeclared, SaysRemoved}
 use Rattle.book.specs.RecordsSay.{SaysRow, ByNumber, ZeroFrom, SchemeSaid, RowsAt, behindLast, row, noRow}
+use Rattle.book.specs.RecordsSay.{ComparisonsSaid, builtInOne, ownOne}
 use Rattle.book.specs.RecordsSay.{RowsSaid}
 use Rattle.book.specs.RecordsSay.{TableSaid}
 use Rattle.book.proofs.Lists.{getD-zeros}
 use Rattle.book.proofs.Declaring.{NewAttribute, NewObject, NewDependency, NewMaximal, attribute-accepted}
 use Rattle.book.proofs.Declaring.{object-accepted, dependency-accepted, declared-accepted, removed-accepted}
+use Rattle.book.proofs.Declaring.{NewTable, table-accepted}
 use Rattle.book.proofs.WellFormed.{take-more, pairs-more, accepted-well-formed}
 
 -- ---- one record more
@@ -144,6 +146,10 @@ module _ (r : Record) where
   unfolding kindOf
   no-removed n M e = n (ap kindOf e)
 
+  no-table : (kindOf r ≡ 13 → ⊥) → (n l a d : ℕ) → Comparisons n l a d ≡ r → ⊥
+  unfolding kindOf
+  no-table k n l a d e = k (ap kindOf (sym e))
+
   no-only : (kindOf r ≡ 14 → ⊥) → OnlyDeclared ≡ r → ⊥
   unfolding kindOf
   no-only n e = n (ap kindOf (sym e))
@@ -169,6 +175,7 @@ nothing-said = record {
   declared = ended;
   removed = ended;
   only = (λ y. absurd (false≢true y), λ m. absurd (List·Memᴰ·not-nil m));
+  comparisons = builtInOne (λ n l a d m. absurd (List·Memᴰ·not-nil m)) refl refl;
   leftBehind = λ i h. getD-zeros 64 i;
   rightBehind = λ i h. getD-zeros 64 i;
   declaredBehind = λ i h. getD-zeros 8 i;
@@ -199,7 +206,21 @@ module _ (r : Record) {rs : List Record} {s : Scheme} (v : SchemeSaid rs s) wher
         (⊎-elim (λ p. p) (λ p. absurd (no-only r n (List·Memᴰ·eq-of-singleton p))) (List·Memᴰ·append-cases rs m)),
   )
 
-  -- a record of another kind than 1, 2, 3, 5, 6 and 14 leaves the scheme as it is
+  -- in a scheme with the same table
+  same-table : {t : Scheme} → (kindOf r ≡ 13 → ⊥) → t .table ≡ s .table → t .tables ≡ s .tables
+      → ComparisonsSaid (rs ++ r ∷ []) t
+  same-table {t} k e f = by (v .comparisons)
+    where
+      by : ComparisonsSaid rs s → ComparisonsSaid (rs ++ r ∷ []) t
+      by (builtInOne lacks z b) =
+          builtInOne
+          (λ n l a d m.
+          ⊎-elim (λ p. lacks n l a d p) (λ p. no-table r k n l a d (List·Memᴰ·eq-of-singleton p))
+          (List·Memᴰ·append-cases rs m))
+          (f ∙ z) (e ∙ b)
+      by (ownOne n l a d m o b) = ownOne n l a d (Memᴰ·append-left (r ∷ []) m) (f ∙ o) (e ∙ b)
+
+  -- a record of another kind than 1, 2, 3, 5, 6, 13 and 14 leaves the scheme as it is
   says-nothing : (kindOf r ≡ 4) ⊎ (7 ≤ kindOf r) × (kindOf r ≤ 10) → SchemeSaid (rs ++ r ∷ []) s
   says-nothing late = record {
     attributes = same-attributes (λ e. ⊎-elim (λ z. omega arith) (λ z. omega arith) late);
@@ -208,6 +229,7 @@ module _ (r : Record) {rs : List Record} {s : Scheme} (v : SchemeSaid rs s) wher
     declared = same-declared (λ e. ⊎-elim (λ z. omega arith) (λ z. omega arith) late);
     removed = same-removed (λ e. ⊎-elim (λ z. omega arith) (λ z. omega arith) late);
     only = same-only (λ e. ⊎-elim (λ z. omega arith) (λ z. omega arith) late);
+    comparisons = same-table (λ e. ⊎-elim (λ z. omega arith) (λ z. omega arith) late) refl refl;
     leftBehind = v .leftBehind;
     rightBehind = v .rightBehind;
     declaredBehind = v .declaredBehind;
@@ -228,6 +250,7 @@ module _ {rs : List Record} {s : Scheme} (w : WellFormed s) (v : SchemeSaid rs s
         declared = same-declared r v (λ e. omega arith);
         removed = same-removed r v (λ e. omega arith);
         only = same-only r v (λ e. omega arith);
+        comparisons = same-table r v (λ e. omega arith) refl refl;
         leftBehind = v .leftBehind;
         rightBehind = v .rightBehind;
         declaredBehind = v .declaredBehind;
@@ -248,6 +271,7 @@ module _ {rs : List Record} {s : Scheme} (w : WellFormed s) (v : SchemeSaid rs s
         declared = same-declared r v (λ e. omega arith);
         removed = same-removed r v (λ e. omega arith);
         only = same-only r v (λ e. omega arith);
+        comparisons = same-table r v (λ e. omega arith) refl refl;
         leftBehind = v .leftBehind;
         rightBehind = v .rightBehind;
         declaredBehind = v .declaredBehind;
@@ -270,6 +294,7 @@ module _ {rs : List Record} {s : Scheme} (w : WellFormed s) (v : SchemeSaid rs s
         declared = same-declared r v (λ e. omega arith);
         removed = same-removed r v (λ e. omega arith);
         only = same-only r v (λ e. omega arith);
+        comparisons = same-table r v (λ e. omega arith) refl refl;
         leftBehind = zero-from-set (s .dependencies) (s .left) left (v .leftBehind);
         rightBehind = zero-from-set (s .dependencies) (s .right) right (v .rightBehind);
         declaredBehind = v .declaredBehind;
@@ -290,6 +315,7 @@ module _ {rs : List Record} {s : Scheme} (w : WellFormed s) (v : SchemeSaid rs s
             (gathered-more SaysDeclared r M refl (v .declared));
         removed = same-removed r v (λ e. omega arith);
         only = same-only r v (λ e. omega arith);
+        comparisons = same-table r v (λ e. omega arith) refl refl;
         leftBehind = v .leftBehind;
         rightBehind = v .rightBehind;
         declaredBehind = zero-from-set (s .declarations) (s .declared) M (v .declaredBehind);
@@ -310,10 +336,31 @@ module _ {rs : List Record} {s : Scheme} (w : WellFormed s) (v : SchemeSaid rs s
             (sym (take-more (s .removed) (s .removals) M (omega (arith, n .room, w .arrays .removed))))
             (gathered-more SaysRemoved r M refl (v .removed));
         only = same-only r v (λ e. omega arith);
+        comparisons = same-table r v (λ e. omega arith) refl refl;
         leftBehind = v .leftBehind;
         rightBehind = v .rightBehind;
         declaredBehind = v .declaredBehind;
         removedBehind = zero-from-set (s .removals) (s .removed) M (v .removedBehind);
+      }
+
+  comparisons-said : (names lengths angles dates : ℕ) → NewTable s names lengths angles dates
+      → SchemeSaid (rs ++ Comparisons names lengths angles dates ∷ []) (withTable s names lengths angles dates)
+  unfolding withTable kindOf
+  comparisons-said names lengths angles dates n =
+      let r = Comparisons names lengths angles dates in
+      record {
+        attributes = same-attributes r v (λ e. omega arith);
+        objects = same-objects r v (λ e. omega arith);
+        dependencies = same-dependencies r v (λ e. omega arith);
+        declared = same-declared r v (λ e. omega arith);
+        removed = same-removed r v (λ e. omega arith);
+        only = same-only r v (λ e. omega arith);
+        comparisons =
+            ownOne names lengths angles dates (Memᴰ·append-right rs (List·Memᴰ·head refl)) (omega (arith, n .room)) refl;
+        leftBehind = v .leftBehind;
+        rightBehind = v .rightBehind;
+        declaredBehind = v .declaredBehind;
+        removedBehind = v .removedBehind;
       }
 
   only-said : SchemeSaid (rs ++ OnlyDeclared ∷ []) (withOnly s)
@@ -327,6 +374,7 @@ module _ {rs : List Record} {s : Scheme} (w : WellFormed s) (v : SchemeSaid rs s
         declared = same-declared r v (λ e. omega arith);
         removed = same-removed r v (λ e. omega arith);
         only = (λ y. Memᴰ·append-right rs (List·Memᴰ·head refl), λ m. refl);
+        comparisons = same-table r v (λ e. omega arith) refl refl;
         leftBehind = v .leftBehind;
         rightBehind = v .rightBehind;
         declaredBehind = v .declaredBehind;
@@ -341,6 +389,8 @@ module _ {rs : List Record} {s : Scheme} (w : WellFormed s) (v : SchemeSaid rs s
   declare-said (Row object c0 c1 c2 c3 c4 c5) f = says-nothing (Row object c0 c1 c2 c3 c4 c5) v (inl refl)
   declare-said (Declared set) f = declared-said set (declared-accepted s set f)
   declare-said (Removed set) f = removed-said set (removed-accepted s set f)
+  declare-said (Comparisons names lengths angles dates) f =
+      comparisons-said names lengths angles dates (table-accepted s names lengths angles dates f)
   declare-said OnlyDeclared f = only-said
   declare-said (Item variable attribute) f = says-nothing (Item variable attribute) v (inr (omega arith))
   declare-said (CompareTwo variable attribute operator variable2 attribute2) f =
@@ -484,6 +534,8 @@ module _ {b : List ℕ} {rs : List Record} {rows : List ℕ} {at next : ℕ} (v 
   more-said (Row object c0 c1 c2 c3 c4 c5) e = row-said object c0 c1 c2 c3 c4 c5 e
   more-said (Declared set) e = no-row-said (Declared set) (λ z. omega arith) e
   more-said (Removed set) e = no-row-said (Removed set) (λ z. omega arith) e
+  more-said (Comparisons names lengths angles dates) e =
+      no-row-said (Comparisons names lengths angles dates) (λ z. omega arith) e
   more-said OnlyDeclared e = no-row-said OnlyDeclared (λ z. omega arith) e
   more-said (Item variable attribute) e = no-row-said (Item variable attribute) (λ z. omega arith) e
   more-said (CompareTwo variable attribute operator variable2 attribute2) e =

@@ -20,7 +20,7 @@ use Rattle.records.specs.Reader.{readAt}
 use Rattle.records.specs.Walking.{none, one}
 use Rattle.records.specs.declared.Record.{Record}
 use Rattle.records.specs.declared.Record.the-variants.{Attribute, Object, Dependency, Row, Declared, Removed}
-use Rattle.records.specs.declared.Record.the-variants.{OnlyDeclared, Item}
+use Rattle.records.specs.declared.Record.the-variants.{Comparisons, OnlyDeclared, Item}
 use Rattle.records.specs.declared.Record.the-variants.{CompareTwo, CompareConstant, End}
 use Rattle.records.specs.declared.Reading.the-variants.{Found}
 use Rattle.relation.specs.Tables as Tables
@@ -29,7 +29,7 @@ use Rattle.scheme.specs.declared.Scheme.{Scheme}
 use Rattle.scheme.specs.Growing.{familyOf}
 use Rattle.book.specs.Faults.{someNonZero, someOutside, wrongCells, faultOf}
 use Rattle.book.specs.Declaring.{declare, withAttribute, withObject, withDependency, withDeclared}
-use Rattle.book.specs.Declaring.{withRemoved, withOnly}
+use Rattle.book.specs.Declaring.{withRemoved, withTable, withOnly}
 use Rattle.book.specs.Reading.{Outcome, Held, isRow, withRow}
 use Rattle.book.specs.Accepting.{Accepted, AcceptedAs}
 use Rattle.book.specs.WellFormed.{WellFormed}
@@ -115,7 +115,7 @@ module _ {b : List ℕ} {s : Scheme} {at : ℕ} (v : WellFormed s) (w : RowAt b 
   }
 
   after : (r : Record) → faultOf s r ≡ 0 → RowAt b (declare s r) at
-  unfolding declare withDependency withDeclared withRemoved withOnly
+  unfolding declare withDependency withDeclared withRemoved withTable withOnly
   after (Attribute id kind) f = after-attribute id kind (attribute-accepted s id kind f)
   after (Object number set) f = after-object number set (object-accepted s number set f)
   after (Dependency left right) f =
@@ -124,6 +124,8 @@ module _ {b : List ℕ} {s : Scheme} {at : ℕ} (v : WellFormed s) (w : RowAt b 
   after (Declared set) f =
       record { object = w .object; cells = w .cells; reads = w .reads; declared = w .declared; ranged = w .ranged }
   after (Removed set) f =
+      record { object = w .object; cells = w .cells; reads = w .reads; declared = w .declared; ranged = w .ranged }
+  after (Comparisons names lengths angles dates) f =
       record { object = w .object; cells = w .cells; reads = w .reads; declared = w .declared; ranged = w .ranged }
   after OnlyDeclared f =
       record { object = w .object; cells = w .cells; reads = w .reads; declared = w .declared; ranged = w .ranged }
@@ -149,6 +151,7 @@ module _ {b : List ℕ} {s : Scheme} {rows : List ℕ} (at : ℕ) {next : ℕ} (
       (List·Memᴰ·append-cases rows m)
   with-row (Declared set) e f p m = older p m
   with-row (Removed set) e f p m = older p m
+  with-row (Comparisons names lengths angles dates) e f p m = older p m
   with-row OnlyDeclared e f p m = older p m
   with-row (Item variable attribute) e f p m = older p m
   with-row (CompareTwo variable attribute operator variable2 attribute2) e f p m = older p m

@@ -29,6 +29,7 @@ use Rattle.book.specs.Statements.{SchemeWellFormed, MaximalObjectsRead, 
 use Rattle.book.specs.TablesOf.{tablesOf}
 use Rattle.book.proofs.Conditions.{fault-first, first-fault}
 use Rattle.book.proofs.Outcomes.{read-over, read-stops, stops-read, number-one-of}
+use Rattle.book.proofs.Outcomes.{record-number-not}
 use Rattle.book.proofs.Outcomes.{number-within, number-faulty, faulty-number, number-whole, whole-number}
 use Rattle.book.proofs.Outcomes.{good-last, number-over, number-not-one}
 use Rattle.book.proofs.WellFormed.{accepted-well-formed, family-of-attributes, scheme-bounded, maximal-some}
@@ -60,20 +61,20 @@ number-means b = record {
     λ e. ⊎-elim (λ h. h) (λ h. absurd (number-not-one b h e)) (lt-or-le 65536 (length b)),
     λ h. number-over b h,
   );
-  twoToSeven = λ n l u. (
-    λ e. let h = number-within b (λ z. omega arith) in (h, number-faulty b n l u h e),
+  ofRecord = λ n r. (
+    λ e. let h = number-within b (λ z. record-number-not r (inl (omega arith))) in (h, number-faulty b n r h e),
     λ p. faulty-number b n (p .0) (p .1),
   );
   zero = (
-    λ e. let h = number-within b (λ z. omega arith) in (h, number-whole b 0 (inl refl) h e),
+    λ e. let h = number-within b (λ z. omega arith) in (h, number-whole b 0 (inl (omega arith)) h e),
     λ p. whole-number b 0 (p .0) (p .1),
   );
   twentyOne = (
-    λ e. let h = number-within b (λ z. omega arith) in (h, number-whole b 21 (inr (omega arith)) h e),
+    λ e. let h = number-within b (λ z. omega arith) in (h, number-whole b 21 (inr (inr refl)) h e),
     λ p. whole-number b 21 (p .0) (p .1),
   );
   nine = (
-    λ e. let h = number-within b (λ z. omega arith) in (h, number-whole b 9 (inr (omega arith)) h e),
+    λ e. let h = number-within b (λ z. omega arith) in (h, number-whole b 9 (inr (inl refl)) h e),
     λ p. whole-number b 9 (p .0) (p .1),
   );
 }

@@ -19,8 +19,9 @@ use Rattle.sets.proofs.Sets.{∪-cases, ∪-left, in-single, insert-in, ⊆-∪
 use Rattle.records.specs.Walking.{none, one}
 use Rattle.records.specs.declared.Record.{Record}
 use Rattle.records.specs.declared.Record.the-variants.{Attribute, Object, Dependency, Row, Declared, Removed}
-use Rattle.records.specs.declared.Record.the-variants.{OnlyDeclared, Item}
+use Rattle.records.specs.declared.Record.the-variants.{Comparisons, OnlyDeclared, Item}
 use Rattle.records.specs.declared.Record.the-variants.{CompareTwo, CompareConstant, End}
+use Rattle.values.proofs.Table.{built-in-keeps}
 use Rattle.scheme.specs.declared.Scheme.{Scheme}
 use Rattle.scheme.specs.Dependencies as Dependencies
 use Rattle.scheme.specs.Growing.{familyOf}
@@ -31,13 +32,14 @@ use Rattle.reduction.specs.Statements.{OfAttributes}
 use Rattle.reduction.proofs.Places.{place-of}
 use Rattle.book.specs.Faults.{SixAtMost, faultOf}
 use Rattle.book.specs.Declaring.{nothingDeclared, withAttribute, withObject, withDependency, withDeclared}
-use Rattle.book.specs.Declaring.{withRemoved, withOnly, declare}
+use Rattle.book.specs.Declaring.{withRemoved, withTable, withOnly, declare}
 use Rattle.book.specs.Reading.{Held}
 use Rattle.book.specs.Accepting.{AcceptedAs}
 use Rattle.book.specs.WellFormed.{SomeAttributes, ObjectSet, Arrays, WellFormed}
 use Rattle.book.proofs.Lists.{changed, getD-zeros}
 use Rattle.book.proofs.Declaring.{NewAttribute, NewObject, NewDependency, NewMaximal, attribute-accepted}
 use Rattle.book.proofs.Declaring.{object-accepted, dependency-accepted, declared-accepted, removed-accepted}
+use Rattle.book.proofs.Declaring.{NewTable, table-accepted}
 
 -- ---- wider sets
 
@@ -101,6 +103,7 @@ nothing-well-formed = record {
   attributesBelow = omega arith;
   objectsBelow = omega arith;
   kindsBelow = λ a. subst (λ (x : ℕ). x < 4) (sym (getD-zeros 32 a)) (omega arith);
+  rules = built-in-keeps;
   objectSets = λ k i. absurd (in-out i (zero-out k));
   otherSets = λ k o. getD-zeros 32 k;
   sides = λ d m. absurd (List·Memᴰ·not-nil m);
@@ -128,6 +131,7 @@ module _ {s : Scheme} (v : WellFormed s) where
     attributesBelow = insert-below (s .attributes) id (v .attributesBelow) (n .below);
     objectsBelow = v .objectsBelow;
     kindsBelow = λ a. changed (λ (x : ℕ). x < 4) (s .kinds) id kind a (n .known) (v .kindsBelow a);
+    rules = v .rules;
     objectSets = λ k i. record {
       some = attributes-wider (insert-wider (s .attributes) id) (v .objectSets k i .some);
       six = v .objectSets k i .six;
@@ -188,6 +192,7 @@ module _ {s : Scheme} (v : WellFormed s) where
       attributesBelow = v .attributesBelow;
       objectsBelow = insert-below (s .objects) number (v .objectsBelow) (n .below);
       kindsBelow = v .kindsBelow;
+      rules = v .rules;
       objectSets = object-sets;
       otherSets = other-sets;
       sides = v .sides;
@@ -212,6 +217,7 @@ module _ {s : Scheme} (v : WellFormed s) where
     attributesBelow = v .attributesBelow;
     objectsBelow = v .objectsBelow;
     kindsBelow = v .kindsBelow;
+    rules = v .rules;
     objectSets = v .objectSets;
     otherSets = v .otherSets;
     sides = λ d m.
@@ -247,6 +253,7 @@ module _ {s : Scheme} (v : WellFormed s) where
     attributesBelow = v .attributesBelow;
     objectsBelow = v .objectsBelow;
     kindsBelow = v .kindsBelow;
+    rules = v .rules;
     objectSets = v .objectSets;
     otherSets = v .otherSets;
     sides = v .sides;
@@ -271,11 +278,38 @@ module _ {s : Scheme} (v : WellFormed s) where
     attributesBelow = v .attributesBelow;
     objectsBelow = v .objectsBelow;
     kindsBelow = v .kindsBelow;
+    rules = v .rules;
     objectSets = v .objectSets;
     otherSets = v .otherSets;
     sides = v .sides;
     declaredSets = v .declaredSets;
     removedSets = eight-more (s .removed) (s .removals) M (v .arrays .removed) n (v .removedSets);
+  }
+
+  table-well-formed : (names lengths angles dates : ℕ) → NewTable s names lengths angles dates
+      → WellFormed (withTable s names lengths angles dates)
+  unfolding withTable
+  table-well-formed names lengths angles dates n = record {
+    arrays = record {
+      kinds = v .arrays .kinds;
+      sets = v .arrays .sets;
+      left = v .arrays .left;
+      right = v .arrays .right;
+      declared = v .arrays .declared;
+      removed = v .arrays .removed;
+      dependencies = v .arrays .dependencies;
+      declarations = v .arrays .declarations;
+      removals = v .arrays .removals;
+    };
+    attributesBelow = v .attributesBelow;
+    objectsBelow = v .objectsBelow;
+    kindsBelow = v .kindsBelow;
+    rules = n .rules;
+    objectSets = v .objectSets;
+    otherSets = v .otherSets;
+    sides = v .sides;
+    declaredSets = v .declaredSets;
+    removedSets = v .removedSets;
   }
 
   only-well-formed : WellFormed (withOnly s)
@@ -295,6 +329,7 @@ module _ {s : Scheme} (v : WellFormed s) where
     attributesBelow = v .attributesBelow;
     objectsBelow = v .objectsBelow;
     kindsBelow = v .kindsBelow;
+    rules = v .rules;
     objectSets = v .objectSets;
     otherSets = v .otherSets;
     sides = v .sides;
@@ -313,6 +348,8 @@ declare-well-formed s (Dependency left right) v f =
 declare-well-formed s (Row object c0 c1 c2 c3 c4 c5) v f = v
 declare-well-formed s (Declared set) v f = declared-well-formed v set (declared-accepted s set f)
 declare-well-formed s (Removed set) v f = removed-well-formed v set (removed-accepted s set f)
+declare-well-formed s (Comparisons names lengths angles dates) v f =
+    table-well-formed v names lengths angles dates (table-accepted s names lengths angles dates f)
 declare-well-formed s OnlyDeclared v f = only-well-formed v
 declare-well-formed s (Item variable attribute) v f = v
 declare-well-formed s (CompareTwo variable attribute operator variable2 attribute2) v f = v

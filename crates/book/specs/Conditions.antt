@@ -11,9 +11,11 @@ use lib.ListN.{getD}
 use Rattle.sets.specs.Sets.{_∈_, _∉_, _⊆_, count}
 use Rattle.values.specs.Values.{inRange}
 use Rattle.records.specs.Checks.{Condition, _gives_}
+use Rattle.values.specs.Table.{Rules}
+use Rattle.records.specs.Records.{masksOf}
 use Rattle.records.specs.declared.Record.{Record}
 use Rattle.records.specs.declared.Record.the-variants.{Attribute, Object, Dependency, Row, Declared, Removed}
-use Rattle.records.specs.declared.Record.the-variants.{OnlyDeclared, Item}
+use Rattle.records.specs.declared.Record.the-variants.{Comparisons, OnlyDeclared, Item}
 use Rattle.records.specs.declared.Record.the-variants.{CompareTwo, CompareConstant, End}
 use Rattle.relation.specs.Tables.{cellOf}
 use Rattle.scheme.specs.declared.Scheme.{Scheme}
@@ -73,6 +75,10 @@ conditions s (Dependency left right) =
 conditions s (Row object c0 c1 c2 c3 c4 c5) = rowConditions s object (c0 ∷ c1 ∷ c2 ∷ c3 ∷ c4 ∷ c5 ∷ [])
 conditions s (Declared set) = maximalConditions s (s .declarations) set
 conditions s (Removed set) = maximalConditions s (s .removals) set
+conditions s (Comparisons names lengths angles dates) =
+    (1 ≤ s .tables gives 4)
+    ∷ ((Rules (masksOf names lengths angles dates) → ⊥) gives 20)
+    ∷ []
 conditions s OnlyDeclared = []
 conditions s (Item variable attribute) = (Unit {0} gives 2) ∷ []
 conditions s (CompareTwo variable attribute operator variable2 attribute2) = (Unit {0} gives 2) ∷ []

@@ -5,9 +5,11 @@ use mathlib.Core.Bool.{true, false}
 use Prim.Native.Nat.{ℕ, _+_}
 use lib.ListN.{set, replicate}
 use Rattle.sets.specs.Sets.{insert}
+use Rattle.values.specs.Table.{builtIn}
+use Rattle.records.specs.Records.{masksOf}
 use Rattle.records.specs.declared.Record.{Record}
 use Rattle.records.specs.declared.Record.the-variants.{Attribute, Object, Dependency, Row, Declared, Removed}
-use Rattle.records.specs.declared.Record.the-variants.{OnlyDeclared, Item}
+use Rattle.records.specs.declared.Record.the-variants.{Comparisons, OnlyDeclared, Item}
 use Rattle.records.specs.declared.Record.the-variants.{CompareTwo, CompareConstant, End}
 use Rattle.scheme.specs.declared.Scheme.{Scheme}
 
@@ -26,6 +28,8 @@ nothingDeclared = record {
   removed = replicate 8 0;
   removals = 0;
   only = false;
+  table = builtIn;
+  tables = 0;
 }
 
 -- "attribute, id 0..31", with its value kind
@@ -43,6 +47,8 @@ withAttribute s id kind = record {
   removed = s .removed;
   removals = s .removals;
   only = s .only;
+  table = s .table;
+  tables = s .tables;
 }
 
 -- "object 0..31 and its attributes"
@@ -60,6 +66,8 @@ withObject s number attributes = record {
   removed = s .removed;
   removals = s .removals;
   only = s .only;
+  table = s .table;
+  tables = s .tables;
 }
 
 -- "dependency: left determines right", behind those before it
@@ -77,6 +85,8 @@ withDependency s left right = record {
   removed = s .removed;
   removals = s .removals;
   only = s .only;
+  table = s .table;
+  tables = s .tables;
 }
 
 -- "declared maximal object", behind those before it
@@ -94,6 +104,8 @@ withDeclared s M = record {
   removed = s .removed;
   removals = s .removals;
   only = s .only;
+  table = s .table;
+  tables = s .tables;
 }
 
 -- "computed maximal object to be removed", behind those before it
@@ -111,6 +123,27 @@ withRemoved s M = record {
   removed = set (s .removed) (s .removals) M;
   removals = s .removals + 1;
   only = s .only;
+  table = s .table;
+  tables = s .tables;
+}
+
+-- "Book kind 13 .. replacing the built-in table for that book"
+unfoldable pub withTable : Scheme → ℕ → ℕ → ℕ → ℕ → Scheme
+withTable s names lengths angles dates = record {
+  kinds = s .kinds;
+  attributes = s .attributes;
+  sets = s .sets;
+  objects = s .objects;
+  left = s .left;
+  right = s .right;
+  dependencies = s .dependencies;
+  declared = s .declared;
+  declarations = s .declarations;
+  removed = s .removed;
+  removals = s .removals;
+  only = s .only;
+  table = masksOf names lengths angles dates;
+  tables = s .tables + 1;
 }
 
 -- "only declared maximal objects count"
@@ -128,6 +161,8 @@ withOnly s = record {
   removed = s .removed;
   removals = s .removals;
   only = true;
+  table = s .table;
+  tables = s .tables;
 }
 
 -- what a record adds; a row adds nothing to the scheme, and the kinds of a query stand in no book
@@ -138,6 +173,7 @@ declare s (Dependency left right) = withDependency s left right
 declare s (Row object c0 c1 c2 c3 c4 c5) = s
 declare s (Declared M) = withDeclared s M
 declare s (Removed M) = withRemoved s M
+declare s (Comparisons names lengths angles dates) = withTable s names lengths angles dates
 declare s OnlyDeclared = withOnly s
 declare s (Item variable attribute) = s
 declare s (CompareTwo variable attribute operator variable2 attribute2) = s

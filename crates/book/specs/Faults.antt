@@ -10,9 +10,11 @@ use lib.ListN.{getD, drop}
 use Rattle.sets.specs.Sets.{has, within, isEmpty, count}
 use Rattle.values.specs.Values.{inRange}
 use Rattle.records.specs.Checks.{firstOf}
+use Rattle.values.specs.Table.{keepsRules}
+use Rattle.records.specs.Records.{masksOf}
 use Rattle.records.specs.declared.Record.{Record}
 use Rattle.records.specs.declared.Record.the-variants.{Attribute, Object, Dependency, Row, Declared, Removed}
-use Rattle.records.specs.declared.Record.the-variants.{OnlyDeclared, Item}
+use Rattle.records.specs.declared.Record.the-variants.{Comparisons, OnlyDeclared, Item}
 use Rattle.records.specs.declared.Record.the-variants.{CompareTwo, CompareConstant, End}
 use Rattle.relation.specs.Tables.{cellOf}
 use Rattle.scheme.specs.declared.Scheme.{Scheme}
@@ -76,6 +78,11 @@ checks s (Dependency left right) =
 checks s (Row object c0 c1 c2 c3 c4 c5) = rowChecks s object (c0 ∷ c1 ∷ c2 ∷ c3 ∷ c4 ∷ c5 ∷ [])
 checks s (Declared set) = maximalChecks s (s .declarations) set
 checks s (Removed set) = maximalChecks s (s .removals) set
+-- "Book kind 13, at most one (else 4)"; "20 a table that breaks this, after 4 for that record."
+checks s (Comparisons names lengths angles dates) =
+    (leb 1 (s .tables), 4)
+    ∷ (not (keepsRules (masksOf names lengths angles dates)), 20)
+    ∷ []
 -- "Book kind 14, no body .. any number of them is one"
 checks s OnlyDeclared = []
 checks s (Item variable attribute) = (true, 2) ∷ []

@@ -11,7 +11,7 @@ use Rattle.records.specs.Records.{ofBook}
 use Rattle.records.specs.Walking.{Rules, Stop, shortNumber, walk}
 use Rattle.records.specs.declared.Record.{Record}
 use Rattle.records.specs.declared.Record.the-variants.{Attribute, Object, Dependency, Row, Declared, Removed}
-use Rattle.records.specs.declared.Record.the-variants.{OnlyDeclared, Item}
+use Rattle.records.specs.declared.Record.the-variants.{Comparisons, OnlyDeclared, Item}
 use Rattle.records.specs.declared.Record.the-variants.{CompareTwo, CompareConstant, End}
 use Rattle.records.specs.declared.Reading.{Reading}
 use Rattle.records.specs.declared.Reading.the-variants.{Nothing, Unknown, Short, Found}
@@ -38,6 +38,7 @@ isRow (Dependency left right) = false
 isRow (Row object c0 c1 c2 c3 c4 c5) = true
 isRow (Declared set) = false
 isRow (Removed set) = false
+isRow (Comparisons names lengths angles dates) = false
 isRow OnlyDeclared = false
 isRow (Item variable attribute) = false
 isRow (CompareTwo variable attribute operator variable2 attribute2) = false

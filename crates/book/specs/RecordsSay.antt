@@ -10,11 +10,12 @@ use Prim.Native.Nat.{ℕ, _+_, _≤_}
 use lib.ListN.{length, getD}
 use Rattle.sets.specs.Sets.{_∈_, _∉_}
 use Rattle.records.specs.Gathered.{Gathered}
-use Rattle.records.specs.Records.{kindOf, bytesOf}
+use Rattle.records.specs.Records.{kindOf, bytesOf, masksOf}
 use Rattle.records.specs.Reader.{Reads}
+use Rattle.values.specs.Table.{builtIn}
 use Rattle.records.specs.declared.Record.{Record}
 use Rattle.records.specs.declared.Record.the-variants.{Attribute, Object, Dependency, Row, Declared, Removed}
-use Rattle.records.specs.declared.Record.the-variants.{OnlyDeclared}
+use Rattle.records.specs.declared.Record.the-variants.{Comparisons, OnlyDeclared}
 use Rattle.relation.specs.Tables as Tables
 use Rattle.scheme.specs.declared.Scheme.{Scheme}
 use Rattle.scheme.specs.Dependencies as Dependencies
@@ -59,6 +60,13 @@ pub record ByNumber (says : ℕ → ℕ → Record) (rs : List Record) (numbers 
 abbrev pub ZeroFrom : ℕ → List ℕ → Type 0
 ZeroFrom n l = (i : ℕ) → n ≤ i → getD l i 0 ≡ 0
 
+-- the comparison table: "Book kind 13, at most one .., replacing the built-in table for that book"
+pub data ComparisonsSaid (rs : List Record) (s : Scheme) : Type 0 where
+  builtInOne : ((names lengths angles dates : ℕ) → List·Memᴰ (Comparisons names lengths angles dates) rs → ⊥)
+      → s .tables ≡ 0 → s .table ≡ builtIn → ComparisonsSaid rs s
+  ownOne : (names lengths angles dates : ℕ) → List·Memᴰ (Comparisons names lengths angles dates) rs
+      → s .tables ≡ 1 → s .table ≡ masksOf names lengths angles dates → ComparisonsSaid rs s
+
 pub record SchemeSaid (rs : List Record) (s : Scheme) : Type 0 where
   pub attributes : ByNumber Attribute rs (s .attributes) (s .kinds)
   pub objects : ByNumber Object rs (s .objects) (s .sets)
@@ -66,6 +74,7 @@ pub record SchemeSaid (rs : List Record) (s : Scheme) : Type 0 where
   pub declared : Gathered SaysDeclared rs (declaredOf s)
   pub removed : Gathered SaysRemoved rs (removedOf s)
   pub only : (s .only ≡ true) ↔ List·Memᴰ OnlyDeclared rs
+  pub comparisons : ComparisonsSaid rs s
   pub leftBehind : ZeroFrom (s .dependencies) (s .left)
   pub rightBehind : ZeroFrom (s .dependencies) (s .right)
   pub declaredBehind : ZeroFrom (s .declarations) (s .declared)

@@ -74,11 +74,15 @@ pub record AcceptedWhole (b : List ℕ) (n : ℕ) : Type 0 where
   pub ended : length b ≤ at
   pub atLast : AtLast scheme n
 
+-- the numbers of a faulty record
+abbrev pub RecordNumber : ℕ → Type 0
+RecordNumber n = ((2 ≤ n) × (n ≤ 7)) ⊎ (n ≡ 20)
+
 pub record NumberMeans (b : List ℕ) : Type 0 where
   -- "8 is no longer given"
-  pub oneOf : (read b .number ≤ 7) ⊎ ((read b .number ≡ 9) ⊎ (read b .number ≡ 21))
+  pub oneOf : (read b .number ≤ 7) ⊎ ((read b .number ≡ 9) ⊎ ((read b .number ≡ 20) ⊎ (read b .number ≡ 21)))
   pub one : (read b .number ≡ 1) ↔ (65536 < length b)
-  pub twoToSeven : (n : ℕ) → 2 ≤ n → n ≤ 7 → (read b .number ≡ n) ↔ ((length b ≤ 65536) × FaultyRecord b n)
+  pub ofRecord : (n : ℕ) → RecordNumber n → (read b .number ≡ n) ↔ ((length b ≤ 65536) × FaultyRecord b n)
   pub zero : (read b .number ≡ 0) ↔ ((length b ≤ 65536) × AcceptedWhole b 0)
   pub twentyOne : (read b .number ≡ 21) ↔ ((length b ≤ 65536) × AcceptedWhole b 21)
   pub nine : (read b .number ≡ 9) ↔ ((length b ≤ 65536) × AcceptedWhole b 9)

@@ -12,7 +12,7 @@ use Rattle.values.specs.Values.{inRange}
 use Rattle.records.specs.Reader.{readAt}
 use Rattle.records.specs.declared.Record.{Record}
 use Rattle.records.specs.declared.Record.the-variants.{Attribute, Object, Dependency, Row, Declared, Removed}
-use Rattle.records.specs.declared.Record.the-variants.{OnlyDeclared, Item}
+use Rattle.records.specs.declared.Record.the-variants.{Comparisons, OnlyDeclared, Item}
 use Rattle.records.specs.declared.Record.the-variants.{CompareTwo, CompareConstant, End}
 use Rattle.records.specs.declared.Reading.{Reading}
 use Rattle.records.specs.declared.Reading.the-variants.{Nothing, Unknown, Short, Found}
@@ -31,6 +31,7 @@ cellsOf k (Row object c0 c1 c2 c3 c4 c5) =
     elim (eqb object k) [ true ↦ (c0 ∷ c1 ∷ c2 ∷ c3 ∷ c4 ∷ c5 ∷ []) ∷ [] | false ↦ [] ]
 cellsOf k (Declared set) = []
 cellsOf k (Removed set) = []
+cellsOf k (Comparisons names lengths angles dates) = []
 cellsOf k OnlyDeclared = []
 cellsOf k (Item variable attribute) = []
 cellsOf k (CompareTwo variable attribute operator variable2 attribute2) = []

@@ -6,6 +6,7 @@ use mathlib.Core.List.{List·Memᴰ}
 use Prim.Native.Nat.{ℕ, _^_, _≤_, _<_}
 use lib.ListN.{length, getD}
 use Rattle.sets.specs.Sets.{_∈_, _∉_, _⊆_, count}
+use Rattle.values.specs.Table.{Rules}
 use Rattle.scheme.specs.declared.Scheme.{Scheme}
 use Rattle.scheme.specs.Dependencies.{Dependency}
 use Rattle.scheme.specs.OfScheme.{dependenciesOf, declaredOf, removedOf}
@@ -40,6 +41,8 @@ pub record WellFormed (s : Scheme) : Type 0 where
   pub objectsBelow : s .objects < 2 ^ 32
   -- value kinds are 0 to 3
   pub kindsBelow : (a : ℕ) → getD (s .kinds) a 0 < 4
+  -- the comparison table keeps the rules of one
+  pub rules : Rules (s .table)
   pub objectSets : (k : ℕ) → k ∈ s .objects → ObjectSet (s .attributes) (getD (s .sets) k 0)
   pub otherSets : (k : ℕ) → k ∉ s .objects → getD (s .sets) k 0 ≡ 0
   pub sides : (d : Dependency) → List·Memᴰ d (dependenciesOf s)

@@ -11,7 +11,7 @@ ghost use Rattle.records.specs.Walking.{shortNumber};
 ghost use Rattle.book.specs.Faults.{someNonZero, someOutside, wrongCells, SixAtMost, rowChecks};
 ghost use Rattle.book.specs.Faults.{maximalChecks, faultOf};
 ghost use Rattle.book.specs.Declaring.{nothingDeclared, withAttribute, withObject, withDependency, withDeclared};
-ghost use Rattle.book.specs.Declaring.{withRemoved, withOnly, declare};
+ghost use Rattle.book.specs.Declaring.{withRemoved, withTable, withOnly, declare};
 ghost use Rattle.book.specs.Reading.{isRow, stopNumber, records, walkedOf, lastNumber, lastFault};
 ghost use Rattle.book.specs.Reading.{read, bookWith, bookOf, stored};
 use records::Reading;
@@ -69,7 +69,7 @@ fn wrong_cells(kinds: [u8; KINDS], set: AttributeSet, cells: [u32; 6]) -> bool
     some_outside(kinds, set, cells)
 }
 
-// The faults of kinds 1 to 6, each by the paper's order.
+// The faults of kinds 1 to 6 and 13, each by the paper's order.
 fn attribute_fault(s: Scheme, id: u8, kind: u8) -> u8
     ensures { λ r. ⌜ r ≡ faultOf s (Record.Attribute id kind) ⌝ }
 {
@@ -161,6 +161,19 @@ fn maximal_fault(s: Scheme, n: usize, set: ObjectSet) -> u8
     0
 }
 
+// The fault of a comparison table: one more than its bound, or one that breaks the rules.
+fn table_fault(s: Scheme, names: u32, lengths: u32, angles: u32, dates: u32) -> u8
+    ensures { λ r. ⌜ r ≡ faultOf s (Record.Comparisons names lengths angles dates) ⌝ }
+{
+    if s.tables >= 1 {
+        return 4;
+    }
+    if !values::keeps_rules(records::masks_of(names, lengths, angles, dates)) {
+        return 20;
+    }
+    0
+}
+
 // The fault of a whole record, 0 where it has none.
 fn fault(s: Scheme, r: Record) -> u8
     requires { ⌜ SixAtMost s ⌝ }
@@ -181,6 +194,12 @@ fn fault(s: Scheme, r: Record) -> u8
         } => { row_fault(s, object, [c0, c1, c2, c3, c4, c5]) }
         Record::Declared { set } => maximal_fault(s, s.declarations, set),
         Record::Removed { set } => maximal_fault(s, s.removals, set),
+        Record::Comparisons {
+            names,
+            lengths,
+            angles,
+            dates,
+        } => { table_fault(s, names, lengths, angles, dates) }
         Record::OnlyDeclared => 0,
         _ => 2,
     }
@@ -190,6 +209,7 @@ fn fault(s: Scheme, r: Record) -> u8
 fn nothing_declared() -> Scheme
     ensures { λ r. ⌜ r ≡ nothingDeclared ⌝ }
 {
+    let table = values::built_in();
     Scheme {
         kinds: [0u8; KINDS],
         attributes: 0,
@@ -203,10 +223,12 @@ fn nothing_declared() -> Scheme
         removed: [0u32; 8],
         removals: 0,
         only: false,
+        table,
+        tables: 0,
     }
 }
 
-// What kinds 1, 2, 3, 5, 6 and 14 add to a scheme.
+// What kinds 1, 2, 3, 5, 6, 13 and 14 add to a scheme.
 fn with_attribute(mut s: Scheme, id: u8, kind: u8) -> Scheme
     requires { ⌜ id < 32 ⌝ }
     ensures { λ r. ⌜ r ≡ withAttribute s id kind ⌝ }
@@ -258,6 +280,16 @@ fn with_removed(mut s: Scheme, set: ObjectSet) -> Scheme
     s
 }
 
+fn with_table(mut s: Scheme, names: u32, lengths: u32, angles: u32, dates: u32) -> Scheme
+    requires { ⌜ s .tables < 1 ⌝ }
+    ensures { λ r. ⌜ r ≡ withTable s names lengths angles dates ⌝ }
+{
+    let table = records::masks_of(names, lengths, angles, dates);
+    s.table = table;
+    s.tables = s.tables + 1;
+    s
+}
+
 fn with_only(mut s: Scheme) -> Scheme
     ensures { λ r. ⌜ r ≡ withOnly s ⌝ }
 {
@@ -276,6 +308,12 @@ fn declare(s: Scheme, r: Record) -> Scheme
         Record::Dependency { left, right } => with_dependency(s, left, right),
         Record::Declared { set } => with_declared(s, set),
         Record::Removed { set } => with_removed(s, set),
+        Record::Comparisons {
+            names,
+            lengths,
+            angles,
+            dates,
+        } => { with_table(s, names, lengths, angles, dates) }
         Record::OnlyDeclared => with_only(s),
         _ => s,
     }

@@ -23,7 +23,7 @@ use Rattle.query.specs.Asking.{itemsOf, comparisonsOf, attributesNamed}
 use Rattle.query.specs.Accepting.{Names, item, left, right, ofConstant, NamedIn}
 use Rattle.query.specs.Statements.{SaysComparison, two, constant}
 use Rattle.query.proofs.Theorems.{records-ask}
-use Rattle.connection.specs.Answers.{Cells, itemCells, rightCell, isTrue, cellsOf}
+use Rattle.connection.specs.Answers.{Cells, itemCells, rightCell, kindAt, rightKind, isTrue, cellsOf}
 use Rattle.connection.specs.Statements.{NamesInRange}
 
 -- ---- items and comparisons are named
@@ -91,13 +91,13 @@ module _ {rs : List Record} {f g : Cells} (s : AgreeOnNames rs f g) where
 
   says-agree : (o : Outcome) {r : Record} {c : Comparison} → List·Memᴰ r rs → SaysComparison r c
       → isTrue o c f ≡ isTrue o c g
-  unfolding isTrue rightCell
+  unfolding isTrue rightCell rightKind
   says-agree o {r} m (two {v} {a} {operator} {v2} {a2}) =
-      ap₂ (holds operator (getD (o .scheme .kinds) a 0))
+      ap₂ (holds operator (kindAt o a) (kindAt o a2))
       (s .each v a (record { by = r; there = m; names = left }))
       (s .each v2 a2 (record { by = r; there = m; names = right }))
   says-agree o {r} m (constant {v} {a} {operator} {cell}) =
-      ap (λ (x : ℕ). holds operator (getD (o .scheme .kinds) a 0) x cell)
+      ap (λ (x : ℕ). holds operator (kindAt o a) (kindAt o a) x cell)
       (s .each v a (record { by = r; there = m; names = ofConstant }))
 
   -- and make the same comparisons true

@@ -16,9 +16,9 @@ use Rattle.host.specs.Words.{words, wordsOf, hasWords, wordsPrinted, wor
 -- no other number has words
 no-words : (n : ℕ) → (n ≡ 1 → ⊥) → (n ≡ 2 → ⊥) → (n ≡ 3 → ⊥) → (n ≡ 4 → ⊥) → (n ≡ 5 → ⊥)
     → (n ≡ 6 → ⊥) → (n ≡ 7 → ⊥) → (n ≡ 9 → ⊥) → (n ≡ 10 → ⊥) → (n ≡ 11 → ⊥)
-    → (n ≡ 12 → ⊥) → (n ≡ 13 → ⊥) → (n ≡ 14 → ⊥) → (n ≡ 21 → ⊥) → hasWords n ≡ false
+    → (n ≡ 12 → ⊥) → (n ≡ 13 → ⊥) → (n ≡ 14 → ⊥) → (n ≡ 20 → ⊥) → (n ≡ 21 → ⊥) → hasWords n ≡ false
 unfolding hasWords words
-no-words n d1 d2 d3 d4 d5 d6 d7 d9 d10 d11 d12 d13 d14 d21 = choose (lt-or-le n 22)
+no-words n d1 d2 d3 d4 d5 d6 d7 d9 d10 d11 d12 d13 d14 d20 d21 = choose (lt-or-le n 22)
   where
     choose : (n < 22) ⊎ (22 ≤ n) → hasWords n ≡ false
     choose (inr past) = ap (λ (w : List ℕ). ltb 0 (length w)) (List·getD-eq-default words [] past)
@@ -28,7 +28,7 @@ no-words n d1 d2 d3 d4 d5 d6 d7 d9 d10 d11 d12 d13 d14 d21 = choose (lt-or-le n 
         ((λ e. absurd (d4 e)), ((λ e. absurd (d5 e)), ((λ e. absurd (d6 e)), ((λ e. absurd (d7 e)),
         ((λ e. refl), ((λ e. absurd (d9 e)), ((λ e. absurd (d10 e)), ((λ e. absurd (d11 e)),
         ((λ e. absurd (d12 e)), ((λ e. absurd (d13 e)), ((λ e. absurd (d14 e)), ((λ e. refl), ((λ e. refl),
-        ((λ e. refl), ((λ e. refl), ((λ e. refl), ((λ e. refl), ((λ e. absurd (d21 e)), tt))))))))))))))))))))))
+        ((λ e. refl), ((λ e. refl), ((λ e. refl), ((λ e. absurd (d20 e)), ((λ e. absurd (d21 e)), tt))))))))))))))))))))))
         n below refl
 
 module _ (n : ℕ) (out : List ℕ) where
@@ -46,9 +46,9 @@ module _ (n : ℕ) (out : List ℕ) where
   -- any other
   pub words-none : (n ≡ 1 → ⊥) → (n ≡ 2 → ⊥) → (n ≡ 3 → ⊥) → (n ≡ 4 → ⊥) → (n ≡ 5 → ⊥)
       → (n ≡ 6 → ⊥) → (n ≡ 7 → ⊥) → (n ≡ 9 → ⊥) → (n ≡ 10 → ⊥) → (n ≡ 11 → ⊥)
-      → (n ≡ 12 → ⊥) → (n ≡ 13 → ⊥) → (n ≡ 14 → ⊥) → (n ≡ 21 → ⊥)
+      → (n ≡ 12 → ⊥) → (n ≡ 13 → ⊥) → (n ≡ 14 → ⊥) → (n ≡ 20 → ⊥) → (n ≡ 21 → ⊥)
       → (NotFit ≡ wordsPrinted n out) × (out ≡ wordsAfter n out)
   unfolding wordsPrinted wordsAfter
-  words-none d1 d2 d3 d4 d5 d6 d7 d9 d10 d11 d12 d13 d14 d21 =
-      let e = no-words n d1 d2 d3 d4 d5 d6 d7 d9 d10 d11 d12 d13 d14 d21 in
+  words-none d1 d2 d3 d4 d5 d6 d7 d9 d10 d11 d12 d13 d14 d20 d21 =
+      let e = no-words n d1 d2 d3 d4 d5 d6 d7 d9 d10 d11 d12 d13 d14 d20 d21 in
       (sym (rw (wordsPrinted, e)), sym (rw (wordsAfter, e)))

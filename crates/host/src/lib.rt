@@ -149,6 +149,7 @@ fn print_words(number: u32, out: &mut [u8]) -> Printed
         12 => printout::print_text(b"no connection", out),
         13 => printout::print_text(b"space too small", out),
         14 => printout::print_text(b"last serial number", out),
+        20 => printout::print_text(b"wrong comparison table", out),
         21 => printout::print_text(b"kinds 6 and 14 together", out),
         _ => Printed::NotFit,
     }

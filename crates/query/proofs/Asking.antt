@@ -19,7 +19,7 @@ use Rattle.records.proofs.Record.{the-type}
 use Rattle.records.proofs.Checks.{none-first}
 use Rattle.records.specs.declared.Record.{Record}
 use Rattle.records.specs.declared.Record.the-variants.{Attribute, Object, Dependency, Row, Declared, Removed}
-use Rattle.records.specs.declared.Record.the-variants.{OnlyDeclared, Item}
+use Rattle.records.specs.declared.Record.the-variants.{Comparisons, OnlyDeclared, Item}
 use Rattle.records.specs.declared.Record.the-variants.{CompareTwo, CompareConstant, End}
 use Rattle.scheme.specs.declared.Scheme.{Scheme}
 use Rattle.query.specs.declared.Asked.{Asked}
@@ -262,6 +262,8 @@ asked-record s rs (Row object c0 c1 c2 c3 c4 c5) f =
     asks-nothing rs (Row object c0 c1 c2 c3 c4 c5) refl refl refl
 asked-record s rs (Declared set) f = asks-nothing rs (Declared set) refl refl refl
 asked-record s rs (Removed set) f = asks-nothing rs (Removed set) refl refl refl
+asked-record s rs (Comparisons names lengths angles dates) f =
+    asks-nothing rs (Comparisons names lengths angles dates) refl refl refl
 asked-record s rs OnlyDeclared f = asks-nothing rs OnlyDeclared refl refl refl
 asked-record s rs (Item v a) f =
     let n = item-accepted s (length (itemsOf rs)) (length (comparisonsOf rs)) v a f in
@@ -286,6 +288,7 @@ last-is-end (Dependency left right) e = absurd (yes-no e refl)
 last-is-end (Row object c0 c1 c2 c3 c4 c5) e = absurd (yes-no e refl)
 last-is-end (Declared set) e = absurd (yes-no e refl)
 last-is-end (Removed set) e = absurd (yes-no e refl)
+last-is-end (Comparisons names lengths angles dates) e = absurd (yes-no e refl)
 last-is-end OnlyDeclared e = absurd (yes-no e refl)
 last-is-end (Item v a) e = absurd (yes-no e refl)
 last-is-end (CompareTwo v a operator v2 a2) e = absurd (yes-no e refl)
@@ -301,7 +304,7 @@ of-variant s items comparisons e p = e ∙ ap (faultOf s items comparisons) (sym
 pub with-variant : (q : Asked) {d : Asked} {r p : Record} → d ≡ withRecord q p → r ≡ p → d ≡ withRecord q r
 with-variant q e p = e ∙ ap (withRecord q) (sym p)
 
-pub adds-nothing : (q : Asked) (r : Record) → OneOf (0 ∷ 1 ∷ 2 ∷ 3 ∷ 4 ∷ 5 ∷ 6 ∷ 10 ∷ []) (tagOf the-type r)
+pub adds-nothing : (q : Asked) (r : Record) → OneOf (0 ∷ 1 ∷ 2 ∷ 3 ∷ 4 ∷ 5 ∷ 6 ∷ 7 ∷ 11 ∷ []) (tagOf the-type r)
     → q ≡ withRecord q r
 unfolding withRecord
 adds-nothing q (Attribute id kind) h = refl
@@ -310,13 +313,14 @@ adds-nothing q (Dependency left right) h = refl
 adds-nothing q (Row object c0 c1 c2 c3 c4 c5) h = refl
 adds-nothing q (Declared set) h = refl
 adds-nothing q (Removed set) h = refl
+adds-nothing q (Comparisons names lengths angles dates) h = refl
 adds-nothing q OnlyDeclared h = refl
-adds-nothing q (Item v a) h = absurd (miss (0 ∷ 1 ∷ 2 ∷ 3 ∷ 4 ∷ 5 ∷ 6 ∷ 10 ∷ []) 7 tt h)
-adds-nothing q (CompareTwo v a operator v2 a2) h = absurd (miss (0 ∷ 1 ∷ 2 ∷ 3 ∷ 4 ∷ 5 ∷ 6 ∷ 10 ∷ []) 8 tt h)
-adds-nothing q (CompareConstant v a operator cell) h = absurd (miss (0 ∷ 1 ∷ 2 ∷ 3 ∷ 4 ∷ 5 ∷ 6 ∷ 10 ∷ []) 9 tt h)
+adds-nothing q (Item v a) h = absurd (miss (0 ∷ 1 ∷ 2 ∷ 3 ∷ 4 ∷ 5 ∷ 6 ∷ 7 ∷ 11 ∷ []) 8 tt h)
+adds-nothing q (CompareTwo v a operator v2 a2) h = absurd (miss (0 ∷ 1 ∷ 2 ∷ 3 ∷ 4 ∷ 5 ∷ 6 ∷ 7 ∷ 11 ∷ []) 9 tt h)
+adds-nothing q (CompareConstant v a operator cell) h = absurd (miss (0 ∷ 1 ∷ 2 ∷ 3 ∷ 4 ∷ 5 ∷ 6 ∷ 7 ∷ 11 ∷ []) 10 tt h)
 adds-nothing q End h = refl
 
-pub not-the-end : (r : Record) → OneOf (0 ∷ 1 ∷ 2 ∷ 3 ∷ 4 ∷ 5 ∷ 6 ∷ 7 ∷ 8 ∷ 9 ∷ []) (tagOf the-type r) → false ≡ isEnd r
+pub not-the-end : (r : Record) → OneOf (0 ∷ 1 ∷ 2 ∷ 3 ∷ 4 ∷ 5 ∷ 6 ∷ 7 ∷ 8 ∷ 9 ∷ 10 ∷ []) (tagOf the-type r) → false ≡ isEnd r
 unfolding isEnd
 not-the-end (Attribute id kind) h = refl
 not-the-end (Object number set) h = refl
@@ -324,11 +328,12 @@ not-the-end (Dependency left right) h = refl
 not-the-end (Row object c0 c1 c2 c3 c4 c5) h = refl
 not-the-end (Declared set) h = refl
 not-the-end (Removed set) h = refl
+not-the-end (Comparisons names lengths angles dates) h = refl
 not-the-end OnlyDeclared h = refl
 not-the-end (Item v a) h = refl
 not-the-end (CompareTwo v a operator v2 a2) h = refl
 not-the-end (CompareConstant v a operator cell) h = refl
-not-the-end End h = absurd (miss (0 ∷ 1 ∷ 2 ∷ 3 ∷ 4 ∷ 5 ∷ 6 ∷ 7 ∷ 8 ∷ 9 ∷ []) 10 tt h)
+not-the-end End h = absurd (miss (0 ∷ 1 ∷ 2 ∷ 3 ∷ 4 ∷ 5 ∷ 6 ∷ 7 ∷ 8 ∷ 9 ∷ 10 ∷ []) 11 tt h)
 
 -- what the code needs of a record without a fault
 module _ (s : Scheme) (items comparisons : ℕ) {r : Record} (f : faultOf s items comparisons r ≡ 0) where

@@ -16,7 +16,7 @@ use Rattle.records.specs.Records.{kinds, whose, isKind, ofQuery, kindOf}
 use Rattle.records.specs.Walking.{Sound}
 use Rattle.records.specs.declared.Record.{Record}
 use Rattle.records.specs.declared.Record.the-variants.{Attribute, Object, Dependency, Row, Declared, Removed}
-use Rattle.records.specs.declared.Record.the-variants.{OnlyDeclared, Item}
+use Rattle.records.specs.declared.Record.the-variants.{Comparisons, OnlyDeclared, Item}
 use Rattle.records.specs.declared.Record.the-variants.{CompareTwo, CompareConstant, End}
 use Rattle.records.proofs.Checks.{EachNumber, first-number, Agree, ended, next, first-agrees, first-unique, same-always}
 use Rattle.records.proofs.Checks.{same-not, same-or}
@@ -38,6 +38,7 @@ agrees s items comparisons (Dependency left right) = next same-always ended
 agrees s items comparisons (Row object c0 c1 c2 c3 c4 c5) = next same-always ended
 agrees s items comparisons (Declared set) = next same-always ended
 agrees s items comparisons (Removed set) = next same-always ended
+agrees s items comparisons (Comparisons names lengths angles dates) = next same-always ended
 agrees s items comparisons OnlyDeclared = next same-always ended
 agrees s items comparisons (Item v a) =
     next (same-le _ _) (next (same-or (same-lt _ _) (same-lt _ _)) (next (same-absent _ _) ended))
@@ -81,6 +82,7 @@ numbered s items comparisons (Dependency left right) = (two, tt)
 numbered s items comparisons (Row object c0 c1 c2 c3 c4 c5) = (two, tt)
 numbered s items comparisons (Declared set) = (two, tt)
 numbered s items comparisons (Removed set) = (two, tt)
+numbered s items comparisons (Comparisons names lengths angles dates) = (two, tt)
 numbered s items comparisons OnlyDeclared = (two, tt)
 numbered s items comparisons (Item v a) = (four, (five, (seven, tt)))
 numbered s items comparisons (CompareTwo v a operator v2 a2) = (four, (five, (seven, (eleven, tt))))
@@ -118,6 +120,7 @@ fault-not-of-query s items comparisons (Dependency left right) e = refl
 fault-not-of-query s items comparisons (Row object c0 c1 c2 c3 c4 c5) e = refl
 fault-not-of-query s items comparisons (Declared set) e = refl
 fault-not-of-query s items comparisons (Removed set) e = refl
+fault-not-of-query s items comparisons (Comparisons names lengths angles dates) e = refl
 fault-not-of-query s items comparisons OnlyDeclared e = refl
 fault-not-of-query s items comparisons (Item v a) e = absurd (yes-no refl e)
 fault-not-of-query s items comparisons (CompareTwo v a operator v2 a2) e = absurd (yes-no refl e)

@@ -1,5 +1,5 @@
 -- Worked examples: what reading gives beside what the paper says, in one list under one theorem.
--- In order: the scheme of a book, a good query, as many records as the bounds allow, results, the trials.
+-- In order: schemes of books, a good query, as many records as the bounds allow, results, the trials.
 -- Assumes nothing.
 use mathlib.Core.Path.{_≡_, refl}
 use mathlib.Core.Bool.{true, false}
@@ -8,7 +8,7 @@ use Prim.Native.Nat.{ℕ, _+_}
 use lib.ListN.{take, replicate}
 use Rattle.sets.specs.Sets.{bit, has, within, _∪_, single, isEmpty, members}
 use Rattle.values.specs.Values.{inRange}
-use Rattle.values.specs.Operators.{allows}
+use Rattle.values.specs.Table.{builtIn, allows}
 use Rattle.reduction.specs.Kept.{union}
 use Rattle.records.specs.Checks.{firstOf}
 use Rattle.records.specs.Fields.{bytes, value, field}
@@ -45,6 +45,28 @@ book = record {
   removed = replicate 8 0;
   removals = 0;
   only = false;
+  table = builtIn;
+  tables = 0;
+}
+
+-- the same with a comparison table of its own: equal and unequal within each kind but dates, all six within dates and
+-- between lengths and dates
+unfoldable pub ofClub : Scheme
+ofClub = record {
+  kinds = book .kinds;
+  attributes = book .attributes;
+  sets = book .sets;
+  objects = book .objects;
+  left = book .left;
+  right = book .right;
+  dependencies = book .dependencies;
+  declared = book .declared;
+  declarations = book .declarations;
+  removed = book .removed;
+  removals = book .removals;
+  only = book .only;
+  table = 3 ∷ 0 ∷ 0 ∷ 0 ∷ 0 ∷ 3 ∷ 0 ∷ 63 ∷ 0 ∷ 0 ∷ 3 ∷ 0 ∷ 0 ∷ 63 ∷ 0 ∷ 63 ∷ [];
+  tables = 1;
 }
 
 -- its maximal objects: one of objects 0 and 1, one of object 2
@@ -83,6 +105,10 @@ result b = resultOf (queryOf (read book maximals b))
 -- of records, with kind 10 behind them
 abbrev pub query : List Record → List ℕ
 query rs = result (bytesOfAll (rs ++ End ∷ []))
+
+-- the same over the book with a comparison table of its own
+abbrev pub clubQuery : List Record → List ℕ
+clubQuery rs = resultOf (queryOf (read ofClub maximals (bytesOfAll (rs ++ End ∷ []))))
 
 abbrev pub unendedQuery : List Record → List ℕ
 unendedQuery rs = result (bytesOfAll rs)
@@ -167,6 +193,12 @@ trials =
     ∷ refuses (query (Item 0 0 ∷ CompareTwo 0 1 0 0 0 ∷ [])) 11
     ∷ refuses (query (Item 0 0 ∷ CompareTwo 0 3 2 0 1 ∷ [])) 11
     ∷ answers (query (Item 0 0 ∷ CompareTwo 0 0 1 0 0 ∷ CompareConstant 0 1 5 9 ∷ [])) 18
+    -- 11 is given by the table of the book
+    ∷ refuses (clubQuery (Item 0 0 ∷ CompareConstant 0 1 5 9 ∷ [])) 11
+    ∷ refuses (clubQuery (Item 0 0 ∷ CompareTwo 0 1 2 1 4 ∷ [])) 11
+    ∷ refuses (clubQuery (Item 0 0 ∷ CompareTwo 0 1 0 0 0 ∷ [])) 11
+    ∷ answers (clubQuery (Item 1 3 ∷ CompareTwo 1 3 2 1 4 ∷ [])) 10
+    ∷ refuses (query (Item 1 3 ∷ CompareTwo 1 3 2 1 4 ∷ [])) 11
     -- "an angle constant over 35,999 is then 5", after 11; of other kinds it is none
     ∷ refuses (query (Item 0 0 ∷ CompareConstant 0 2 0 36000 ∷ [])) 5
     ∷ refuses (query (Item 0 0 ∷ CompareConstant 0 2 2 36000 ∷ [])) 11
@@ -200,10 +232,9 @@ trials =
     ∷ []
 
 pub trials-hold : map (λ t. t .gives) trials ≡ map (λ t. t .says) trials
-unfolding trials book maximals good eightOfTwo eightWithConstant eightItems resultOf result fieldsOf askedBy asks
+unfolding trials book ofClub maximals good eightOfTwo eightWithConstant eightItems resultOf result fieldsOf askedBy asks
     flatMap queryOf read atEnd wholeNumber someUnconnected unconnected isNil containing walkQuery isEnd faultOf checks
-    ofQuery
-    askedOf filled attributesNamed naming namesOf nameOf comparisonsOf comparisonOf itemsOf itemOf shortNumber walkFrom
-    walk firstOf readAt readFront recordOf bodies bytesOfAll bytesOf bodyLength isKind whose kinds field value bytes
-    attributesOf familyOf union allows inRange members isEmpty single _∪_ within has bit
+    ofQuery askedOf filled attributesNamed naming namesOf nameOf comparisonsOf comparisonOf itemsOf itemOf shortNumber
+    walkFrom walk firstOf readAt readFront recordOf bodies bytesOfAll bytesOf bodyLength isKind whose kinds field value
+    bytes attributesOf familyOf union allows builtIn inRange members isEmpty single _∪_ within has bit
 trials-hold = refl

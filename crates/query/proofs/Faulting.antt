@@ -13,13 +13,13 @@ use denote.Enum.Declared.{tagOf}
 use Rattle.sets.specs.Sets.{has}
 use Rattle.sets.proofs.Tests.{or-left, or-right, or-no}
 use Rattle.values.specs.Values.{inRange}
-use Rattle.values.specs.Operators.{allows}
+use Rattle.values.specs.Table.{allows}
 use Rattle.records.proofs.Record.{the-type}
 use Rattle.records.proofs.Checks.{first-yes, first-no, first-none, tested-not, tested-absent}
 use Rattle.records.specs.Checks.{firstOf}
 use Rattle.records.specs.declared.Record.{Record}
 use Rattle.records.specs.declared.Record.the-variants.{Attribute, Object, Dependency, Row, Declared, Removed}
-use Rattle.records.specs.declared.Record.the-variants.{OnlyDeclared, Item}
+use Rattle.records.specs.declared.Record.the-variants.{Comparisons, OnlyDeclared, Item}
 use Rattle.records.specs.declared.Record.the-variants.{CompareTwo, CompareConstant, End}
 use Rattle.scheme.specs.declared.Scheme.{Scheme}
 use Rattle.query.specs.Faults.{kindIn, checks, faultOf}
@@ -65,7 +65,7 @@ module _ (s : Scheme) (items comparisons v a operator v2 a2 : ℕ) where
   abbrev twoRest : List (Bool × ℕ)
   twoRest =
       (not (has (s .attributes) a) || not (has (s .attributes) a2), 7)
-      ∷ (not (allows operator (kindIn s a) (kindIn s a2)), 11)
+      ∷ (not (allows (s .table) operator (kindIn s a) (kindIn s a2)), 11)
       ∷ []
 
   abbrev outsideTwo : Bool
@@ -111,8 +111,8 @@ module _ (s : Scheme) (items comparisons v a operator v2 a2 : ℕ) where
           two-undeclared2 y =
               two-inside (first-yes _ (or-right (not (has (s .attributes) a)) (tested-absent (s .attributes) e2 q2 y)))
 
-          module _ (known2 : not r2 ≡ false) {t : Bool} (f : t ≡ allows operator (kindIn s a) (kindIn s a2)) where
-            two-declared : {n : ℕ} → n ≡ firstOf ((not (allows operator (kindIn s a) (kindIn s a2)), 11) ∷ [])
+          module _ (known2 : not r2 ≡ false) {t : Bool} (f : t ≡ allows (s .table) operator (kindIn s a) (kindIn s a2)) where
+            two-declared : {n : ℕ} → n ≡ firstOf ((not (allows (s .table) operator (kindIn s a) (kindIn s a2)), 11) ∷ [])
                 → n ≡ faultOf s items comparisons (CompareTwo v a operator v2 a2)
             two-declared d =
                 two-inside (first-no _ _ (or-no (tested-absent (s .attributes) e q known)
@@ -134,7 +134,7 @@ module _ (s : Scheme) (items comparisons v a operator cell : ℕ) where
   abbrev constantRest : List (Bool × ℕ)
   constantRest =
       (not (has (s .attributes) a), 7)
-      ∷ (not (allows operator (kindIn s a) (kindIn s a)), 11)
+      ∷ (not (allows (s .table) operator (kindIn s a) (kindIn s a)), 11)
       ∷ (not (inRange (kindIn s a) cell), 5)
       ∷ []
 
@@ -163,7 +163,7 @@ module _ (s : Scheme) (items comparisons v a operator cell : ℕ) where
       pub constant-undeclared : not r ≡ true → 7 ≡ faultOf s items comparisons (CompareConstant v a operator cell)
       constant-undeclared y = constant-inside (first-yes _ (tested-absent (s .attributes) e q y))
 
-      module _ (known : not r ≡ false) {t : Bool} (f : t ≡ allows operator (kindIn s a) (kindIn s a)) where
+      module _ (known : not r ≡ false) {t : Bool} (f : t ≡ allows (s .table) operator (kindIn s a) (kindIn s a)) where
         pub constant-not-allowed : not t ≡ true → 11 ≡ faultOf s items comparisons (CompareConstant v a operator cell)
         constant-not-allowed y =
             constant-inside (first-no _ _ (tested-absent (s .attributes) e q known) (first-yes _ (tested-not f y)))
@@ -188,7 +188,7 @@ unfolding faultOf checks firstOf
 end-right s items comparisons = refl
 
 pub not-of-a-query : (s : Scheme) (items comparisons : ℕ) (r : Record)
-    → OneOf (0 ∷ 1 ∷ 2 ∷ 3 ∷ 4 ∷ 5 ∷ 6 ∷ []) (tagOf the-type r) → 2 ≡ faultOf s items comparisons r
+    → OneOf (0 ∷ 1 ∷ 2 ∷ 3 ∷ 4 ∷ 5 ∷ 6 ∷ 7 ∷ []) (tagOf the-type r) → 2 ≡ faultOf s items comparisons r
 unfolding faultOf checks firstOf
 not-of-a-query s items comparisons (Attribute id kind) h = refl
 not-of-a-query s items comparisons (Object number set) h = refl
@@ -196,10 +196,11 @@ not-of-a-query s items comparisons (Dependency left right) h = refl
 not-of-a-query s items comparisons (Row object c0 c1 c2 c3 c4 c5) h = refl
 not-of-a-query s items comparisons (Declared set) h = refl
 not-of-a-query s items comparisons (Removed set) h = refl
+not-of-a-query s items comparisons (Comparisons names lengths angles dates) h = refl
 not-of-a-query s items comparisons OnlyDeclared h = refl
-not-of-a-query s items comparisons (Item v a) h = absurd (miss (0 ∷ 1 ∷ 2 ∷ 3 ∷ 4 ∷ 5 ∷ 6 ∷ []) 7 tt h)
+not-of-a-query s items comparisons (Item v a) h = absurd (miss (0 ∷ 1 ∷ 2 ∷ 3 ∷ 4 ∷ 5 ∷ 6 ∷ 7 ∷ []) 8 tt h)
 not-of-a-query s items comparisons (CompareTwo v a operator v2 a2) h =
-    absurd (miss (0 ∷ 1 ∷ 2 ∷ 3 ∷ 4 ∷ 5 ∷ 6 ∷ []) 8 tt h)
+    absurd (miss (0 ∷ 1 ∷ 2 ∷ 3 ∷ 4 ∷ 5 ∷ 6 ∷ 7 ∷ []) 9 tt h)
 not-of-a-query s items comparisons (CompareConstant v a operator cell) h =
-    absurd (miss (0 ∷ 1 ∷ 2 ∷ 3 ∷ 4 ∷ 5 ∷ 6 ∷ []) 9 tt h)
-not-of-a-query s items comparisons End h = absurd (miss (0 ∷ 1 ∷ 2 ∷ 3 ∷ 4 ∷ 5 ∷ 6 ∷ []) 10 tt h)
+    absurd (miss (0 ∷ 1 ∷ 2 ∷ 3 ∷ 4 ∷ 5 ∷ 6 ∷ 7 ∷ []) 10 tt h)
+not-of-a-query s items comparisons End h = absurd (miss (0 ∷ 1 ∷ 2 ∷ 3 ∷ 4 ∷ 5 ∷ 6 ∷ 7 ∷ []) 11 tt h)

@@ -15,7 +15,7 @@ use Rattle.records.specs.Checks.{firstOf}
 use Rattle.records.specs.Walking as Walking
 use Rattle.records.specs.declared.Record.{Record}
 use Rattle.records.specs.declared.Record.the-variants.{Attribute, Object, Dependency, Row, Declared, Removed}
-use Rattle.records.specs.declared.Record.the-variants.{OnlyDeclared, Item}
+use Rattle.records.specs.declared.Record.the-variants.{Comparisons, OnlyDeclared, Item}
 use Rattle.records.specs.declared.Record.the-variants.{CompareTwo, CompareConstant, End}
 use Rattle.records.proofs.Checks.{none-first}
 use Rattle.scheme.specs.declared.Scheme.{Scheme}
@@ -55,6 +55,7 @@ fitting s items comparisons (Dependency from to) e = other-faulty e
 fitting s items comparisons (Row object c0 c1 c2 c3 c4 c5) e = other-faulty e
 fitting s items comparisons (Declared set) e = other-faulty e
 fitting s items comparisons (Removed set) e = other-faulty e
+fitting s items comparisons (Comparisons names lengths angles dates) e = other-faulty e
 fitting s items comparisons OnlyDeclared e = other-faulty e
 fitting s items comparisons (Item v a) e =
     let n = item-accepted s items comparisons v a e in

@@ -19,7 +19,7 @@ use Rattle.records.specs.Gathered.{Gathered, ended, taken, passedOver}
 use Rattle.records.specs.Records.{kindOf}
 use Rattle.records.specs.declared.Record.{Record}
 use Rattle.records.specs.declared.Record.the-variants.{Attribute, Object, Dependency, Row, Declared, Removed}
-use Rattle.records.specs.declared.Record.the-variants.{OnlyDeclared, Item}
+use Rattle.records.specs.declared.Record.the-variants.{Comparisons, OnlyDeclared, Item}
 use Rattle.records.specs.declared.Record.the-variants.{CompareTwo, CompareConstant, End}
 use Rattle.query.specs.declared.QueryItem.{QueryItem}
 use Rattle.query.specs.declared.Comparison.{Comparison}
@@ -47,6 +47,8 @@ items-gathered (r ∷ rs) = more r (items-gathered rs)
     more (Row object c0 c1 c2 c3 c4 c5) g = passedOver (no-item (Row object c0 c1 c2 c3 c4 c5) (λ z. omega arith)) g
     more (Declared set) g = passedOver (no-item (Declared set) (λ z. omega arith)) g
     more (Removed set) g = passedOver (no-item (Removed set) (λ z. omega arith)) g
+    more (Comparisons names lengths angles dates) g =
+        passedOver (no-item (Comparisons names lengths angles dates) (λ z. omega arith)) g
     more OnlyDeclared g = passedOver (no-item OnlyDeclared (λ z. omega arith)) g
     more (Item v a) g = taken refl g
     more (CompareTwo v a operator v2 a2) g =
@@ -77,6 +79,8 @@ comparisons-gathered (r ∷ rs) = more r (comparisons-gathered rs)
         passedOver (no-comparison (Row object c0 c1 c2 c3 c4 c5) (λ l u. omega arith)) g
     more (Declared set) g = passedOver (no-comparison (Declared set) (λ l u. omega arith)) g
     more (Removed set) g = passedOver (no-comparison (Removed set) (λ l u. omega arith)) g
+    more (Comparisons names lengths angles dates) g =
+        passedOver (no-comparison (Comparisons names lengths angles dates) (λ l u. omega arith)) g
     more OnlyDeclared g = passedOver (no-comparison OnlyDeclared (λ l u. omega arith)) g
     more (Item v a) g = passedOver (no-comparison (Item v a) (λ l u. omega arith)) g
     more (CompareTwo v a operator v2 a2) g = taken two g
@@ -107,6 +111,7 @@ in-name (Dependency from to) m = absurd (List·Memᴰ·not-nil m)
 in-name (Row object c0 c1 c2 c3 c4 c5) m = absurd (List·Memᴰ·not-nil m)
 in-name (Declared set) m = absurd (List·Memᴰ·not-nil m)
 in-name (Removed set) m = absurd (List·Memᴰ·not-nil m)
+in-name (Comparisons names lengths angles dates) m = absurd (List·Memᴰ·not-nil m)
 in-name OnlyDeclared m = absurd (List·Memᴰ·not-nil m)
 in-name (Item w b) m = same-name (λ x y. Names x y (Item w b)) (List·Memᴰ·eq-of-singleton m) item
 in-name (CompareTwo w b operator w2 b2) m =

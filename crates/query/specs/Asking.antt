@@ -10,7 +10,7 @@ use lib.ListN.{length, getD, set, replicate}
 use Rattle.sets.specs.Sets.{insert}
 use Rattle.records.specs.declared.Record.{Record}
 use Rattle.records.specs.declared.Record.the-variants.{Attribute, Object, Dependency, Row, Declared, Removed}
-use Rattle.records.specs.declared.Record.the-variants.{OnlyDeclared, Item}
+use Rattle.records.specs.declared.Record.the-variants.{Comparisons, OnlyDeclared, Item}
 use Rattle.records.specs.declared.Record.the-variants.{CompareTwo, CompareConstant, End}
 use Rattle.query.specs.declared.QueryItem.{QueryItem}
 use Rattle.query.specs.declared.Comparison.{Comparison}
@@ -30,6 +30,7 @@ itemOf (Dependency left right) = []
 itemOf (Row object c0 c1 c2 c3 c4 c5) = []
 itemOf (Declared set) = []
 itemOf (Removed set) = []
+itemOf (Comparisons names lengths angles dates) = []
 itemOf OnlyDeclared = []
 itemOf (Item v a) = pair v a ∷ []
 itemOf (CompareTwo v a operator v2 a2) = []
@@ -73,6 +74,7 @@ comparisonOf (Dependency left right) = []
 comparisonOf (Row object c0 c1 c2 c3 c4 c5) = []
 comparisonOf (Declared set) = []
 comparisonOf (Removed set) = []
+comparisonOf (Comparisons names lengths angles dates) = []
 comparisonOf OnlyDeclared = []
 comparisonOf (Item v a) = []
 comparisonOf (CompareTwo v a operator v2 a2) = ofTwo v a operator v2 a2 ∷ []
@@ -94,6 +96,7 @@ nameOf (Dependency left right) = []
 nameOf (Row object c0 c1 c2 c3 c4 c5) = []
 nameOf (Declared set) = []
 nameOf (Removed set) = []
+nameOf (Comparisons names lengths angles dates) = []
 nameOf OnlyDeclared = []
 nameOf (Item v a) = pair v a ∷ []
 nameOf (CompareTwo v a operator v2 a2) = pair v a ∷ pair v2 a2 ∷ []
@@ -180,6 +183,7 @@ withRecord q (Dependency left right) = q
 withRecord q (Row object c0 c1 c2 c3 c4 c5) = q
 withRecord q (Declared set) = q
 withRecord q (Removed set) = q
+withRecord q (Comparisons names lengths angles dates) = q
 withRecord q OnlyDeclared = q
 withRecord q (Item v a) = withName (withItem q (pair v a)) v a
 withRecord q (CompareTwo v a operator v2 a2) = withName (withName (withComparison q (ofTwo v a operator v2 a2)) v a) v2 a2

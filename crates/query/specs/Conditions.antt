@@ -8,11 +8,11 @@ use mathlib.Core.List.{List, [], _∷_}
 use Prim.Native.Nat.{ℕ, _≤_, _<_}
 use Rattle.sets.specs.Sets.{_∉_}
 use Rattle.values.specs.Values.{inRange}
-use Rattle.values.specs.Operators.{allows}
+use Rattle.values.specs.Table.{allows}
 use Rattle.records.specs.Checks.{Condition, _gives_}
 use Rattle.records.specs.declared.Record.{Record}
 use Rattle.records.specs.declared.Record.the-variants.{Attribute, Object, Dependency, Row, Declared, Removed}
-use Rattle.records.specs.declared.Record.the-variants.{OnlyDeclared, Item}
+use Rattle.records.specs.declared.Record.the-variants.{Comparisons, OnlyDeclared, Item}
 use Rattle.records.specs.declared.Record.the-variants.{CompareTwo, CompareConstant, End}
 use Rattle.scheme.specs.declared.Scheme.{Scheme}
 use Rattle.query.specs.Faults.{kindIn}
@@ -28,6 +28,7 @@ conditions s items comparisons (Dependency left right) = (Unit {0} gives 2) ∷ 
 conditions s items comparisons (Row object c0 c1 c2 c3 c4 c5) = (Unit {0} gives 2) ∷ []
 conditions s items comparisons (Declared set) = (Unit {0} gives 2) ∷ []
 conditions s items comparisons (Removed set) = (Unit {0} gives 2) ∷ []
+conditions s items comparisons (Comparisons names lengths angles dates) = (Unit {0} gives 2) ∷ []
 conditions s items comparisons OnlyDeclared = (Unit {0} gives 2) ∷ []
 conditions s items comparisons (Item v a) =
     (8 ≤ items gives 4)
@@ -38,13 +39,13 @@ conditions s items comparisons (CompareTwo v a operator v2 a2) =
     (16 ≤ comparisons gives 4)
     ∷ ((3 < v) ⊎ ((31 < a) ⊎ ((5 < operator) ⊎ ((3 < v2) ⊎ (31 < a2)))) gives 5)
     ∷ ((a ∉ s .attributes) ⊎ (a2 ∉ s .attributes) gives 7)
-    ∷ (allows operator (kindIn s a) (kindIn s a2) ≡ false gives 11)
+    ∷ (allows (s .table) operator (kindIn s a) (kindIn s a2) ≡ false gives 11)
     ∷ []
 conditions s items comparisons (CompareConstant v a operator cell) =
     (16 ≤ comparisons gives 4)
     ∷ ((3 < v) ⊎ ((31 < a) ⊎ (5 < operator)) gives 5)
     ∷ (a ∉ s .attributes gives 7)
-    ∷ (allows operator (kindIn s a) (kindIn s a) ≡ false gives 11)
+    ∷ (allows (s .table) operator (kindIn s a) (kindIn s a) ≡ false gives 11)
     ∷ (inRange (kindIn s a) cell ≡ false gives 5)
     ∷ []
 conditions s items comparisons End = []

@@ -9,11 +9,11 @@ use lib.Dec.{ltb, leb}
 use lib.ListN.{getD}
 use Rattle.sets.specs.Sets.{has}
 use Rattle.values.specs.Values.{inRange}
-use Rattle.values.specs.Operators.{allows}
+use Rattle.values.specs.Table.{allows}
 use Rattle.records.specs.Checks.{firstOf}
 use Rattle.records.specs.declared.Record.{Record}
 use Rattle.records.specs.declared.Record.the-variants.{Attribute, Object, Dependency, Row, Declared, Removed}
-use Rattle.records.specs.declared.Record.the-variants.{OnlyDeclared, Item}
+use Rattle.records.specs.declared.Record.the-variants.{Comparisons, OnlyDeclared, Item}
 use Rattle.records.specs.declared.Record.the-variants.{CompareTwo, CompareConstant, End}
 use Rattle.scheme.specs.declared.Scheme.{Scheme}
 
@@ -31,6 +31,7 @@ checks s items comparisons (Dependency left right) = (true, 2) ∷ []
 checks s items comparisons (Row object c0 c1 c2 c3 c4 c5) = (true, 2) ∷ []
 checks s items comparisons (Declared set) = (true, 2) ∷ []
 checks s items comparisons (Removed set) = (true, 2) ∷ []
+checks s items comparisons (Comparisons names lengths angles dates) = (true, 2) ∷ []
 checks s items comparisons OnlyDeclared = (true, 2) ∷ []
 checks s items comparisons (Item v a) =
     (leb 8 items, 4)
@@ -41,13 +42,13 @@ checks s items comparisons (CompareTwo v a operator v2 a2) =
     (leb 16 comparisons, 4)
     ∷ (ltb 3 v || (ltb 31 a || (ltb 5 operator || (ltb 3 v2 || ltb 31 a2))), 5)
     ∷ (not (has (s .attributes) a) || not (has (s .attributes) a2), 7)
-    ∷ (not (allows operator (kindIn s a) (kindIn s a2)), 11)
+    ∷ (not (allows (s .table) operator (kindIn s a) (kindIn s a2)), 11)
     ∷ []
 checks s items comparisons (CompareConstant v a operator cell) =
     (leb 16 comparisons, 4)
     ∷ (ltb 3 v || (ltb 31 a || ltb 5 operator), 5)
     ∷ (not (has (s .attributes) a), 7)
-    ∷ (not (allows operator (kindIn s a) (kindIn s a)), 11)
+    ∷ (not (allows (s .table) operator (kindIn s a) (kindIn s a)), 11)
     ∷ (not (inRange (kindIn s a) cell), 5)
     ∷ []
 checks s items comparisons End = []

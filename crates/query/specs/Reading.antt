@@ -13,7 +13,7 @@ use Rattle.records.specs.Records.{ofQuery}
 use Rattle.records.specs.Walking.{Rules, Stop, shortNumber, walk}
 use Rattle.records.specs.declared.Record.{Record}
 use Rattle.records.specs.declared.Record.the-variants.{Attribute, Object, Dependency, Row, Declared, Removed}
-use Rattle.records.specs.declared.Record.the-variants.{OnlyDeclared, Item}
+use Rattle.records.specs.declared.Record.the-variants.{Comparisons, OnlyDeclared, Item}
 use Rattle.records.specs.declared.Record.the-variants.{CompareTwo, CompareConstant, End}
 use Rattle.records.specs.declared.Reading.{Reading}
 use Rattle.records.specs.declared.Reading.the-variants.{Nothing, Unknown, Short, Found}
@@ -35,6 +35,7 @@ isEnd (Dependency left right) = false
 isEnd (Row object c0 c1 c2 c3 c4 c5) = false
 isEnd (Declared set) = false
 isEnd (Removed set) = false
+isEnd (Comparisons names lengths angles dates) = false
 isEnd OnlyDeclared = false
 isEnd (Item v a) = false
 isEnd (CompareTwo v a operator v2 a2) = false

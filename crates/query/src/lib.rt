@@ -107,7 +107,8 @@ fn two_fault(
     }
     let a = attribute as usize;
     let a2 = attribute2 as usize;
-    if !values::allowed(operator, s.kinds[a], s.kinds[a2]) {
+    let table = s.table;
+    if !values::allowed(table, operator, s.kinds[a], s.kinds[a2]) {
         return 11;
     }
     0
@@ -141,7 +142,8 @@ fn constant_fault(
     }
     let a = attribute as usize;
     let kind = s.kinds[a];
-    if !values::allowed(operator, kind, kind) {
+    let table = s.table;
+    if !values::allowed(table, operator, kind, kind) {
         return 11;
     }
     if !values::in_range(kind, cell) {

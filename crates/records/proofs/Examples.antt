@@ -10,7 +10,7 @@ use Rattle.records.specs.Records.{kinds, whose, isKind, bodyLength, byte
 use Rattle.records.specs.Reader.{bodies, recordOf, readFront, readAt}
 use Rattle.records.specs.declared.Record.{Record}
 use Rattle.records.specs.declared.Record.the-variants.{Attribute, Object, Dependency, Row, Declared, Removed}
-use Rattle.records.specs.declared.Record.the-variants.{OnlyDeclared}
+use Rattle.records.specs.declared.Record.the-variants.{Comparisons, OnlyDeclared}
 use Rattle.records.specs.declared.Record.the-variants.{Item, CompareTwo, CompareConstant, End}
 use Rattle.records.specs.declared.Reading.the-variants.{Found}
 
@@ -41,6 +41,11 @@ examples =
     ∷ record { content = Declared 67305985; says = 5 ∷ 1 ∷ 2 ∷ 3 ∷ 4 ∷ [] }
     -- "computed maximal object to be removed"
     ∷ record { content = Removed 134678021; says = 6 ∷ 5 ∷ 6 ∷ 7 ∷ 8 ∷ [] }
+    -- request 7: "16 bytes, byte 4 times left kind plus right kind"
+    ∷ record {
+      content = Comparisons 67305985 134678021 202050057 269422093;
+      says = 13 ∷ 1 ∷ 2 ∷ 3 ∷ 4 ∷ 5 ∷ 6 ∷ 7 ∷ 8 ∷ 9 ∷ 10 ∷ 11 ∷ 12 ∷ 13 ∷ 14 ∷ 15 ∷ 16 ∷ [];
+    }
     -- request 8: "only declared maximal objects count"
     ∷ record { content = OnlyDeclared; says = 14 ∷ [] }
     -- "variable, attribute"

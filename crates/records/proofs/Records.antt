@@ -5,8 +5,8 @@
 use mathlib.Core.Path.{_≡_, refl, sym, ap, _∙_}
 use mathlib.Core.Bool.{true, false, not, false≢true}
 use mathlib.Core.Logic.{_⊎_, inl, inr}
-use mathlib.Core.List.{List, _∷_, _++_}
-use Prim.Native.Nat.{ℕ, zero, suc, _+_, _*_, _≤_, _<_}
+use mathlib.Core.List.{List, [], _∷_, _++_}
+use Prim.Native.Nat.{ℕ, zero, suc, _+_, _*_, _/_, _%_, _≤_, _<_}
 use native.Mathlib.Nat.{add-zero}
 use native.Mathlib.Omega.{arith}
 use borrow.Author.Tests.{leb-true, eqb-true}
@@ -15,12 +15,12 @@ use lib.ListN.{length, take, drop, List·getD-eq-default}
 use lib.Seq.{take-add}
 use Rattle.sets.proofs.Numbers.{lt-or-le, each-below}
 use Rattle.records.specs.Fields.{AreBytes, bytes, field}
-use Rattle.records.specs.Records.{kinds, whose, isKind, ofBook, ofQuery, bodyLength, kindOf, bytesOf}
+use Rattle.records.specs.Records.{kinds, whose, isKind, ofBook, ofQuery, bodyLength, kindOf, masksOf, bytesOf}
 use Rattle.records.specs.Records.{Small, Wide, InWidth}
 use Rattle.records.specs.Reader.{bodies, recordOf}
 use Rattle.records.specs.declared.Record.{Record}
 use Rattle.records.specs.declared.Record.the-variants.{Attribute, Object, Dependency, Row, Declared, Removed}
-use Rattle.records.specs.declared.Record.the-variants.{OnlyDeclared}
+use Rattle.records.specs.declared.Record.the-variants.{Comparisons, OnlyDeclared}
 use Rattle.records.specs.declared.Record.the-variants.{Item, CompareTwo, CompareConstant, End}
 use Rattle.records.proofs.Fields.{value-bytes, bytes-field, field-drop, field-below}
 
@@ -40,10 +40,10 @@ unfolding isKind
 no-kind-past k h = ap (λ (w : ℕ). not (eqb w 0)) (whose-past k h)
 
 -- What holds of each kind of the table holds of every kind.
-pub by-kind : (P : ℕ → Type 0) → P 1 → P 2 → P 3 → P 4 → P 5 → P 6 → P 7 → P 8 → P 9 → P 10 → P 14
+pub by-kind : (P : ℕ → Type 0) → P 1 → P 2 → P 3 → P 4 → P 5 → P 6 → P 7 → P 8 → P 9 → P 10 → P 13 → P 14
     → (k : ℕ) → isKind k ≡ true → P k
 unfolding isKind whose kinds
-by-kind P a b c d e f g h i j l k kind = choose (lt-or-le k 15)
+by-kind P a b c d e f g h i j m l k kind = choose (lt-or-le k 15)
   where
     choose : (k < 15) ⊎ (15 ≤ k) → P k
     choose (inr past) = absurd (false≢true (sym (no-kind-past k past) ∙ kind))
@@ -51,7 +51,7 @@ by-kind P a b c d e f g h i j l k kind = choose (lt-or-le k 15)
         each-below (λ k. isKind k ≡ true → P k) 15
         ((λ y. absurd (false≢true y)), ((λ y. a), ((λ y. b), ((λ y. c), ((λ y. d), ((λ y. e), ((λ y. f),
         ((λ y. g), ((λ y. h), ((λ y. i), ((λ y. j), ((λ y. absurd (false≢true y)),
-        ((λ y. absurd (false≢true y)), ((λ y. absurd (false≢true y)), ((λ y. l), tt)))))))))))))))
+        ((λ y. absurd (false≢true y)), ((λ y. m), ((λ y. l), tt)))))))))))))))
         k below kind
 
 -- a kind of a book, and of a query
@@ -63,19 +63,20 @@ pub query-kind : (k : ℕ) → ofQuery k ≡ true → isKind k ≡ true
 unfolding ofQuery isKind
 query-kind k y = ap (λ (w : ℕ). not (eqb w 0)) (eqb-true (whose k) 2 y)
 
-pub by-book : (P : ℕ → Type 0) → P 1 → P 2 → P 3 → P 4 → P 5 → P 6 → P 14 → (k : ℕ) → ofBook k ≡ true → P k
+pub by-book : (P : ℕ → Type 0) → P 1 → P 2 → P 3 → P 4 → P 5 → P 6 → P 13 → P 14 → (k : ℕ) → ofBook k ≡ true → P k
 unfolding ofBook whose kinds
-by-book P a b c d e f l k y =
+by-book P a b c d e f m l k y =
     by-kind (λ k. ofBook k ≡ true → P k) (λ y. a) (λ y. b) (λ y. c) (λ y. d) (λ y. e) (λ y. f)
     (λ y. absurd (false≢true y)) (λ y. absurd (false≢true y)) (λ y. absurd (false≢true y)) (λ y. absurd (false≢true y))
-    (λ y. l) k (book-kind k y) y
+    (λ y. m) (λ y. l) k (book-kind k y) y
 
 pub by-query : (P : ℕ → Type 0) → P 7 → P 8 → P 9 → P 10 → (k : ℕ) → ofQuery k ≡ true → P k
 unfolding ofQuery whose kinds
 by-query P a b c d k y =
     by-kind (λ k. ofQuery k ≡ true → P k) (λ y. absurd (false≢true y)) (λ y. absurd (false≢true y))
     (λ y. absurd (false≢true y)) (λ y. absurd (false≢true y)) (λ y. absurd (false≢true y)) (λ y. absurd (false≢true y))
-    (λ y. a) (λ y. b) (λ y. c) (λ y. d) (λ y. absurd (false≢true y)) k (query-kind k y) y
+    (λ y. a) (λ y. b) (λ y. c) (λ y. d) (λ y. absurd (false≢true y)) (λ y. absurd (false≢true y)) k
+    (query-kind k y) y
 
 -- a kind that is none of a book's is a query's
 pub other-kind : (k : ℕ) → isKind k ≡ true → ofBook k ≡ false → ofQuery k ≡ true
@@ -85,16 +86,14 @@ other-kind =
     (λ n. absurd (false≢true (sym n))) (λ n. absurd (false≢true (sym n)))
     (λ n. absurd (false≢true (sym n))) (λ n. absurd (false≢true (sym n)))
     (λ n. absurd (false≢true (sym n))) (λ n. refl) (λ n. refl) (λ n. refl) (λ n. refl)
-    (λ n. absurd (false≢true (sym n)))
+    (λ n. absurd (false≢true (sym n))) (λ n. absurd (false≢true (sym n)))
 
 -- the last kind of a book in the order of the code
 pub last-of-book : (k : ℕ) → ofBook k ≡ true → (k ≡ 1 → ⊥) → (k ≡ 2 → ⊥) → (k ≡ 3 → ⊥) → (k ≡ 4 → ⊥) → (k ≡ 5 → ⊥)
-    → (k ≡ 6 → ⊥) → k ≡ 14
-last-of-book =
-    by-book (λ k. (k ≡ 1 → ⊥) → (k ≡ 2 → ⊥) → (k ≡ 3 → ⊥) → (k ≡ 4 → ⊥) → (k ≡ 5 → ⊥) → (k ≡ 6 → ⊥) → k ≡ 14)
-    (λ a b c d e f. absurd (a refl)) (λ a b c d e f. absurd (b refl)) (λ a b c d e f. absurd (c refl))
-    (λ a b c d e f. absurd (d refl)) (λ a b c d e f. absurd (e refl)) (λ a b c d e f. absurd (f refl))
-    (λ a b c d e f. refl)
+    → (k ≡ 6 → ⊥) → (k ≡ 13 → ⊥) → k ≡ 14
+last-of-book k y a b c d e f m =
+    by-book (λ j. k ≡ j → k ≡ 14) (λ p. absurd (a p)) (λ p. absurd (b p)) (λ p. absurd (c p)) (λ p. absurd (d p))
+    (λ p. absurd (e p)) (λ p. absurd (f p)) (λ p. absurd (m p)) (λ p. p) k y refl
 
 pub last-of-query : (k : ℕ) → ofQuery k ≡ true → (k ≡ 7 → ⊥) → (k ≡ 8 → ⊥) → (k ≡ 9 → ⊥) → k ≡ 10
 last-of-query =
@@ -117,6 +116,7 @@ shape (Dependency left right) = record { kind = refl; split = refl; body = refl 
 shape (Row object c0 c1 c2 c3 c4 c5) = record { kind = refl; split = refl; body = refl }
 shape (Declared set) = record { kind = refl; split = refl; body = refl }
 shape (Removed set) = record { kind = refl; split = refl; body = refl }
+shape (Comparisons names lengths angles dates) = record { kind = refl; split = refl; body = refl }
 shape OnlyDeclared = record { kind = refl; split = refl; body = refl }
 shape (Item variable attribute) = record { kind = refl; split = refl; body = refl }
 shape (CompareTwo variable attribute operator variable2 attribute2) = record { kind = refl; split = refl; body = refl }
@@ -146,6 +146,12 @@ recordOf-written (Row object c0 c1 c2 c3 c4 c5) q h =
     (value-bytes 4 c5 (h .6) i)
 recordOf-written (Declared set) q h = λ i. Declared (value-bytes 4 set h i)
 recordOf-written (Removed set) q h = λ i. Removed (value-bytes 4 set h i)
+recordOf-written (Comparisons names lengths angles dates) q h =
+    λ i. Comparisons
+    (value-bytes 4 names (h .0) i)
+    (value-bytes 4 lengths (h .1) i)
+    (value-bytes 4 angles (h .2) i)
+    (value-bytes 4 dates (h .3) i)
 recordOf-written OnlyDeclared q h = refl
 recordOf-written (Item variable attribute) q h =
     λ i. Item (value-bytes 1 variable (h .0) i) (value-bytes 1 attribute (h .1) i)
@@ -189,12 +195,14 @@ bytesOf-recordOf b k given =
     (λ fits. simp (first-field b given fits, next-field b given fits))
     (λ fits. simp (first-field b given fits, next-field b given fits))
     (λ fits. refl)
+    (λ fits. simp (first-field b given fits, next-field b given fits))
     (λ fits. refl)
     k
 
 pub kindOf-recordOf : (b : List ℕ) (k : ℕ) → isKind k ≡ true → kindOf (recordOf k b) ≡ k
 unfolding recordOf bodies kindOf
 kindOf-recordOf b = by-kind (λ k. kindOf (recordOf k b) ≡ k) refl refl refl refl refl refl refl refl refl refl refl
+    refl
 
 -- A body of bytes gives fields that fit.
 pub inWidth-recordOf : (b : List ℕ) (k : ℕ) → AreBytes b → isKind k ≡ true → InWidth (recordOf k b)
@@ -213,6 +221,7 @@ inWidth-recordOf b k given =
     (small 0, small 1, small 2, small 3, small 4)
     (small 0, small 1, small 2, wide 3)
     tt
+    (wide 0, wide 4, wide 8, wide 12)
     tt
     k
 
@@ -250,6 +259,30 @@ pub removed-at : (s : List ℕ) (k b set : ℕ) → k ≡ 6
     → set ≡ field 4 s b → Removed set ≡ recordOf k (drop b s)
 unfolding recordOf bodies
 removed-at s k b set e e0 = simp (e, e0, field-drop, add-zero)
+
+pub comparisons-at : (s : List ℕ) (k b names lengths angles dates : ℕ) → k ≡ 13
+    → names ≡ field 4 s b → lengths ≡ field 4 s (b + 4) → angles ≡ field 4 s (b + 8) → dates ≡ field 4 s (b + 12)
+    → Comparisons names lengths angles dates ≡ recordOf k (drop b s)
+unfolding recordOf bodies
+comparisons-at s k b names lengths angles dates e e0 e1 e2 e3 = simp (e, e0, e1, e2, e3, field-drop, add-zero)
+
+-- the masks of a table, byte by byte
+pub masks-are : (names lengths angles dates : ℕ)
+    {m0 m1 m2 m3 m4 m5 m6 m7 m8 m9 m10 m11 m12 m13 m14 m15 : ℕ}
+    → m0 ≡ names % 256 → m1 ≡ names / 256 % 256
+    → m2 ≡ names / 256 / 256 % 256 → m3 ≡ names / 256 / 256 / 256 % 256
+    → m4 ≡ lengths % 256 → m5 ≡ lengths / 256 % 256
+    → m6 ≡ lengths / 256 / 256 % 256 → m7 ≡ lengths / 256 / 256 / 256 % 256
+    → m8 ≡ angles % 256 → m9 ≡ angles / 256 % 256
+    → m10 ≡ angles / 256 / 256 % 256 → m11 ≡ angles / 256 / 256 / 256 % 256
+    → m12 ≡ dates % 256 → m13 ≡ dates / 256 % 256
+    → m14 ≡ dates / 256 / 256 % 256 → m15 ≡ dates / 256 / 256 / 256 % 256
+    → m0 ∷ m1 ∷ m2 ∷ m3 ∷ m4 ∷ m5 ∷ m6 ∷ m7 ∷ m8 ∷ m9 ∷ m10 ∷ m11
+    ∷ m12 ∷ m13 ∷ m14 ∷ m15 ∷ [] ≡ masksOf names lengths angles dates
+unfolding bytes
+masks-are names lengths angles dates e0 e1 e2 e3 e4 e5 e6 e7 e8 e9 e10 e11 e12 e13 e14 e15 =
+    λ i. e0 i ∷ e1 i ∷ e2 i ∷ e3 i ∷ e4 i ∷ e5 i ∷ e6 i ∷ e7 i ∷ e8 i ∷ e9 i ∷ e10 i ∷ e11 i
+    ∷ e12 i ∷ e13 i ∷ e14 i ∷ e15 i ∷ []
 
 pub onlyDeclared-at : (s : List ℕ) (k b : ℕ) → k ≡ 14 → OnlyDeclared ≡ recordOf k (drop b s)
 unfolding recordOf bodies

@@ -12,7 +12,7 @@ use Rattle.records.specs.Fields.{field}
 use Rattle.records.specs.Records.{isKind, bodyLength, kindOf}
 use Rattle.records.specs.declared.Record.{Record}
 use Rattle.records.specs.declared.Record.the-variants.{Attribute, Object, Dependency, Row, Declared, Removed}
-use Rattle.records.specs.declared.Record.the-variants.{OnlyDeclared}
+use Rattle.records.specs.declared.Record.the-variants.{Comparisons, OnlyDeclared}
 use Rattle.records.specs.declared.Record.the-variants.{Item, CompareTwo, CompareConstant, End}
 use Rattle.records.specs.declared.Reading.{Reading}
 use Rattle.records.specs.declared.Reading.the-variants.{Nothing, Unknown, Short, Found}
@@ -35,7 +35,7 @@ bodies =
     ∷ (λ b. End)
     ∷ (λ b. End)  -- 11
     ∷ (λ b. End)  -- 12
-    ∷ (λ b. End)  -- 13
+    ∷ (λ b. Comparisons (field 4 b 0) (field 4 b 4) (field 4 b 8) (field 4 b 12))
     ∷ (λ b. OnlyDeclared)
     ∷ []
 

@@ -10,7 +10,7 @@ use lib.ListN.{getD}
 use Rattle.records.specs.Fields.{bytes}
 use Rattle.records.specs.declared.Record.{Record}
 use Rattle.records.specs.declared.Record.the-variants.{Attribute, Object, Dependency, Row, Declared, Removed}
-use Rattle.records.specs.declared.Record.the-variants.{OnlyDeclared}
+use Rattle.records.specs.declared.Record.the-variants.{Comparisons, OnlyDeclared}
 use Rattle.records.specs.declared.Record.the-variants.{Item, CompareTwo, CompareConstant, End}
 
 -- The table of kinds, two numbers for each byte from 0 on: whose kind it is (0 no one's, 1 a book's, 2 a query's), and
@@ -30,7 +30,7 @@ kinds =
     ∷ 2 ∷ 0  -- 10: none
     ∷ 0 ∷ 0  -- 11
     ∷ 0 ∷ 0  -- 12
-    ∷ 0 ∷ 0  -- 13
+    ∷ 1 ∷ 16  -- 13: 16 masks
     ∷ 1 ∷ 0  -- 14: none
     ∷ []
 
@@ -57,11 +57,16 @@ kindOf (Dependency left right) = 3
 kindOf (Row object c0 c1 c2 c3 c4 c5) = 4
 kindOf (Declared set) = 5
 kindOf (Removed set) = 6
+kindOf (Comparisons names lengths angles dates) = 13
 kindOf OnlyDeclared = 14
 kindOf (Item variable attribute) = 7
 kindOf (CompareTwo variable attribute operator variable2 attribute2) = 8
 kindOf (CompareConstant variable attribute operator cell) = 9
 kindOf End = 10
+
+-- the masks of a comparison table: "16 bytes, byte 4 times left kind plus right kind"
+abbrev pub masksOf : ℕ → ℕ → ℕ → ℕ → List ℕ
+masksOf names lengths angles dates = bytes 4 names ++ bytes 4 lengths ++ bytes 4 angles ++ bytes 4 dates
 
 -- "A record is one byte of kind, then a body". "Single fields are one byte", a set and a cell four.
 unfoldable pub bytesOf : Record → List ℕ
@@ -72,6 +77,7 @@ bytesOf (Row object c0 c1 c2 c3 c4 c5) =
     4 ∷ bytes 1 object ++ bytes 4 c0 ++ bytes 4 c1 ++ bytes 4 c2 ++ bytes 4 c3 ++ bytes 4 c4 ++ bytes 4 c5
 bytesOf (Declared set) = 5 ∷ bytes 4 set
 bytesOf (Removed set) = 6 ∷ bytes 4 set
+bytesOf (Comparisons names lengths angles dates) = 13 ∷ masksOf names lengths angles dates
 bytesOf OnlyDeclared = 14 ∷ []
 bytesOf (Item variable attribute) = 7 ∷ bytes 1 variable ++ bytes 1 attribute
 bytesOf (CompareTwo variable attribute operator variable2 attribute2) =
@@ -100,6 +106,7 @@ InWidth (Dependency left right) = Wide left × Wide right
 InWidth (Row object c0 c1 c2 c3 c4 c5) = Small object × Wide c0 × Wide c1 × Wide c2 × Wide c3 × Wide c4 × Wide c5
 InWidth (Declared set) = Wide set
 InWidth (Removed set) = Wide set
+InWidth (Comparisons names lengths angles dates) = Wide names × Wide lengths × Wide angles × Wide dates
 InWidth OnlyDeclared = Unit {0}
 InWidth (Item variable attribute) = Small variable × Small attribute
 InWidth (CompareTwo variable attribute operator variable2 attribute2) =

@@ -1,13 +1,14 @@
 // Records: "one byte of kind, then a body whose length the kind fixes". Reads the record at a position of some bytes.
 ghost use mathlib.Core.Path.{_≡_};
 ghost use mathlib.Core.Bool.{true};
-ghost use Prim.Native.Nat.{_+_, _≤_, _<_};
+ghost use Prim.Native.Nat.{_+_, _%_, _≤_, _<_};
 ghost use lib.ListN.{length, drop};
 ghost use Rattle.records.specs.Fields.{field};
-ghost use Rattle.records.specs.Records.{whose, bodyLength, isKind, ofBook, ofQuery};
+ghost use Rattle.records.specs.Records.{whose, bodyLength, isKind, ofBook, ofQuery, masksOf};
 ghost use Rattle.records.specs.Reader.{recordOf, readAt};
 
-// A record, in the order of the paper's table: kinds 1 to 6 and 14 are a book's, 7 to 10 a query's.
+// A record, in the order of the paper's table: kinds 1 to 6, 13 and 14 are a book's, 7 to 10 a query's. A
+// comparison table has a word for each left kind, whose bytes are the masks of the right kinds, the lowest first.
 pub enum Record {
     Attribute {
         id: u8,
@@ -35,6 +36,12 @@ pub enum Record {
     },
     Removed {
         set: u32,
+    },
+    Comparisons {
+        names: u32,
+        lengths: u32,
+        angles: u32,
+        dates: u32,
     },
     OnlyDeclared,
     Item {
@@ -72,7 +79,7 @@ pub enum Reading {
 // The table of kinds, two numbers for each byte from 0 on: whose kind it is (0 no one's, 1 a book's, 2 a query's), and the
 // length of its body.
 const KINDS: [u8; 30] = [
-    0, 0, 1, 2, 1, 5, 1, 8, 1, 25, 1, 4, 1, 4, 2, 2, 2, 5, 2, 7, 2, 0, 0, 0, 0, 0, 0, 0, 1, 0,
+    0, 0, 1, 2, 1, 5, 1, 8, 1, 25, 1, 4, 1, 4, 2, 2, 2, 5, 2, 7, 2, 0, 0, 0, 0, 0, 1, 16, 1, 0,
 ];
 
 // A byte as a number of 32 bits.
@@ -160,6 +167,50 @@ fn row(s: &[u8], body: usize) -> Record
     }
 }
 
+// The comparison table whose body starts at a position.
+fn comparisons(s: &[u8], body: usize) -> Record
+    requires { ⌜ body + 16 ≤ length (now s) ⌝ }
+    ensures { λ r. ⌜ r ≡ recordOf 13 (drop body (now (s .entry))) ⌝ }
+{
+    Record::Comparisons {
+        names: word_at(s, body),
+        lengths: word_at(s, body + 4),
+        angles: word_at(s, body + 8),
+        dates: word_at(s, body + 12),
+    }
+}
+
+// The lowest byte of a word.
+fn lowest(word: u32) -> u8
+    ensures { λ r. ⌜ r ≡ word % 256 ⌝ }
+{
+    (word % 256) as u8
+}
+
+// The masks of a comparison table, from its words.
+pub fn masks_of(names: u32, lengths: u32, angles: u32, dates: u32) -> [u8; 16]
+    ensures { λ r. ⌜ r ≡ masksOf names lengths angles dates ⌝ }
+{
+    [
+        lowest(names),
+        lowest(names / 256),
+        lowest(names / 256 / 256),
+        lowest(names / 256 / 256 / 256),
+        lowest(lengths),
+        lowest(lengths / 256),
+        lowest(lengths / 256 / 256),
+        lowest(lengths / 256 / 256 / 256),
+        lowest(angles),
+        lowest(angles / 256),
+        lowest(angles / 256 / 256),
+        lowest(angles / 256 / 256 / 256),
+        lowest(dates),
+        lowest(dates / 256),
+        lowest(dates / 256 / 256),
+        lowest(dates / 256 / 256 / 256),
+    ]
+}
+
 // The record of a kind of a book whose body starts at a position.
 fn book_record(s: &[u8], kind: u8, body: usize) -> Record
     requires { ⌜ (ofBook kind ≡ true) × (body + bodyLength kind ≤ length (now s)) ⌝ }
@@ -185,6 +236,7 @@ fn book_record(s: &[u8], kind: u8, body: usize) -> Record
         6 => Record::Removed {
             set: word_at(s, body),
         },
+        13 => comparisons(s, body),
         _ => Record::OnlyDeclared,
     }
 }

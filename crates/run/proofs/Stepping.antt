@@ -26,8 +26,8 @@ use Rattle.run.proofs.Answering.{read-some, answered-prints}
 -- ---- one step
 
 -- a number of the list fits in a byte
-pub below-256 : {n : ℕ} → (n ≤ 14) ⊎ (n ≡ 21) → n < 256
-below-256 c = ⊎-elim (λ l. omega (arith, l)) (λ e. omega (arith, e)) c
+pub below-256 : {n : ℕ} → (n ≤ 14) ⊎ ((n ≡ 20) ⊎ (n ≡ 21)) → n < 256
+below-256 c = ⊎-elim (λ l. omega (arith, l)) (λ p. ⊎-elim (λ e. omega (arith, e)) (λ e. omega (arith, e)) p) c
 
 abbrev answeredStep : List ℕ → List ℕ → ℕ → Stepped
 answeredStep b q serial = record {

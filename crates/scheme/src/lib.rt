@@ -22,7 +22,8 @@ use sets::ObjectSet;
 
 // What a book declares: the value kind of each attribute, the set of each object, the dependencies, the declared
 // maximal objects (kind 5) and those to be removed (kind 6), each array beside its count or the set of what is
-// declared. Places that nothing was declared for are 0.
+// declared; whether only declared maximal objects count (kind 14); the comparison table, and how many the book has
+// (kind 13). Places that nothing was declared for are 0.
 pub struct Scheme {
     pub kinds: [u8; ATTRIBUTES as usize],
     pub attributes: AttributeSet,
@@ -36,6 +37,8 @@ pub struct Scheme {
     pub removed: [ObjectSet; 8],
     pub removals: usize,
     pub only: bool,
+    pub table: [u8; 16],
+    pub tables: usize,
 }
 
 // The first n of a list, or the whole list where it has fewer: a list in an array, without the places behind it.

@@ -44,14 +44,19 @@ use Rattle.sets.proofs.lowest.Met.{met as sets-lowest}
 use Rattle.values.proofs.in_range.Met.{met as values-in-range}
 use Rattle.values.proofs.key.Met.{met as values-key}
 use Rattle.values.proofs.less.Met.{met as values-less}
+use Rattle.values.proofs.built_in.Met.{met as values-built-in}
 use Rattle.values.proofs.allowed.Met.{met as values-allowed}
+use Rattle.values.proofs.keeps_rules.Met.{met as values-keeps-rules}
 use Rattle.values.proofs.holds.Met.{met as values-holds}
 use Rattle.values.proofs.matching.Met.{met as values-matching}
 use Rattle.records.proofs.wide.Met.{met as records-wide}
 use Rattle.records.proofs.byte_at.Met.{met as records-byte-at}
 use Rattle.records.proofs.word_at.Met.{met as records-word-at}
 use Rattle.records.proofs.is_kind.Met.{met as records-is-kind}
+use Rattle.records.proofs.of_book.Met.{met as records-of-book}
+use Rattle.records.proofs.of_query.Met.{met as records-of-query}
 use Rattle.records.proofs.body_length.Met.{met as records-body-length}
+use Rattle.records.proofs.masks_of.Met.{met as records-masks-of}
 use Rattle.records.proofs.read.Met.{met as records-read}
 use Rattle.reduction.proofs.union_of.Met.{met as reduction-union-of}
 use Rattle.reduction.proofs.is_removable.Met.{met as reduction-is-removable}
@@ -102,7 +107,8 @@ use Rattle.host.proofs.vingarbu_refusal_text.Met.{met as host-vingarbu-refusal-
 -- ---- theorems
 use Rattle.sets.proofs.Theorems.{members-of-sets, equal-sets, containment, rank-and-count, lowest-member}
 use Rattle.sets.proofs.Theorems.{members-listed, plain-containment}
-use Rattle.values.proofs.Theorems.{ordered-by-value, operators-mean, table-allows, allowed-means, turned}
+use Rattle.values.proofs.Theorems.{ordered-by-value, ordered-across, operators-mean, table-allows, rules-are-tested}
+use Rattle.values.proofs.Theorems.{built-in-table-keeps, allowed-means, turned}
 use Rattle.values.proofs.Examples.{trials-hold as values-trials-hold}
 use Rattle.records.proofs.Theorems.{fields-inverse, kind-then-body, reads-back, was-written, answers-mean, walk-exactly}
 use Rattle.records.proofs.Examples.{examples-written, examples-read}
@@ -132,7 +138,7 @@ use Rattle.sorted.proofs.Theorems.{rows-ordered, determined-by-members, row-mor
 use Rattle.sorted.proofs.Theorems.{ascending-by-first-columns, next-same}
 use Rattle.sorted.proofs.Examples.{trials-hold as sorted-trials-hold}
 use Rattle.search.proofs.Theorems.{combinations-fit, fill-means, live-decides}
-use Rattle.search.proofs.Examples.{trials-hold as search-trials-hold}
+use Rattle.search.proofs.Examples.{trials-hold as search-trials-hold, between-holds}
 use Rattle.plan.proofs.Theorems.{rows-read, rows-apart}
 use Rattle.connection.proofs.Theorems.{names-in-range, connection-listed, answer-listed, combinations-give, answer-fits}
 use Rattle.connection.proofs.Theorems.{answer-in-range}
@@ -143,7 +149,7 @@ use Rattle.printout.proofs.Theorems.{in-decimal, cells-read, texts-read, fit-te
 use Rattle.printout.proofs.Theorems.{room-enough}
 use Rattle.printout.proofs.Examples.{trials-hold as printout-trials-hold}
 use Rattle.run.proofs.Theorems.{answered-prints, step-inside, opening-inside, run-prints}
-use Rattle.trials.proofs.Starred.{starred-hold, runs-hold}
+use Rattle.trials.proofs.Starred.{starred-hold, runs-hold, dated-runs-hold}
 
 -- ---- the three demands, for the bytes b of any book and q of any query
 

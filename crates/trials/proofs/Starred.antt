@@ -15,7 +15,7 @@ use Rattle.records.specs.Checks.{firstOf}
 use Rattle.records.specs.Walking.{shortNumber, walkFrom, walk}
 use Rattle.records.specs.declared.Record.{Record}
 use Rattle.records.specs.declared.Record.the-variants.{Attribute, Object, Dependency, Row, Declared, Removed}
-use Rattle.records.specs.declared.Record.the-variants.{OnlyDeclared, Item, End}
+use Rattle.records.specs.declared.Record.the-variants.{Comparisons, OnlyDeclared, Item, CompareTwo, End}
 use Rattle.reduction.specs.Kept.{union, around, someHolds, removable, stays, staying, settle, left, acyclic}
 use Rattle.reduction.specs.Kept.{goesFor, goes, keeps, keptOf, kept}
 use Rattle.relation.specs.Tables.{cellOf}
@@ -27,12 +27,12 @@ use Rattle.scheme.specs.OfScheme.{pairs, computedOf, maximalOf, bothOf, cyclicO
 use Rattle.book.specs.Faults.{someNonZero, someOutside, wrongCells, rowChecks, maximalChecks, checks}
 use Rattle.book.specs.Faults.{faultOf}
 use Rattle.book.specs.Declaring.{nothingDeclared, withAttribute, withObject, withDependency, withDeclared, withRemoved}
-use Rattle.book.specs.Declaring.{withOnly, declare}
+use Rattle.book.specs.Declaring.{withTable, withOnly, declare}
 use Rattle.book.specs.Reading.{Outcome, isRow, withRow, records, lastNumber, lastFault, afterLast}
 use Rattle.book.specs.Reading.{read}
 use Rattle.book.specs.Reading.{maximalsOf}
 use Rattle.book.proofs.Examples.{survey, ring}
-use Rattle.values.specs.Operators.{allows}
+use Rattle.values.specs.Table.{builtIn, allows, mirrored, entryKeeps, everyBelow, keepsRules}
 use Rattle.query.specs.Asking.{itemOf, itemsOf, comparisonOf, comparisonsOf, nameOf, namesOf, naming, attributesNamed}
 use Rattle.query.specs.Asking.{filled, askedOf}
 use Rattle.query.specs.Faults as Queries
@@ -47,7 +47,8 @@ use Rattle.book.specs.TablesOf as Tables
 use Rattle.book.specs.TablesOf.{tablesOf}
 use Rattle.sorted.specs.Rows.{lessRow, insertRow, insertRows}
 use Rattle.connection.specs.Connection.{parts, connection}
-use Rattle.connection.specs.Answers.{itemCells, rightCell, isTrue, allTrue, cellsOf, rowsFor, inFront, choices}
+use Rattle.connection.specs.Answers.{itemCells, rightCell, rightKind, isTrue, allTrue, cellsOf, rowsFor}
+use Rattle.connection.specs.Answers.{inFront, choices}
 use Rattle.connection.specs.Answers.{itemKinds, answerRows}
 use Rattle.connection.specs.Answers as Answers
 use Rattle.connection.specs.Answering.{rowsOf, spaceNumber, number}
@@ -132,10 +133,13 @@ first = 81 ∷ 32 ∷ 49 ∷ 32 ∷ 114 ∷ 111 ∷ 119 ∷ 115 ∷ 32 ∷ 49 �
 unfoldable pub second : List ℕ
 second = 81 ∷ 32 ∷ 50 ∷ 32 ∷ 114 ∷ 111 ∷ 119 ∷ 115 ∷ 32 ∷ 49 ∷ 10 ∷ 55 ∷ 32 ∷ 57 ∷ 10 ∷ []
 
--- "query refused 12"
+-- "query refused" with the digits of a number
+unfoldable pub refused : List ℕ → List ℕ
+refused digits =
+    113 ∷ 117 ∷ 101 ∷ 114 ∷ 121 ∷ 32 ∷ 114 ∷ 101 ∷ 102 ∷ 117 ∷ 115 ∷ 101 ∷ 100 ∷ 32 ∷ (digits ++ 10 ∷ [])
+
 unfoldable pub twelve : List ℕ
-twelve =
-    113 ∷ 117 ∷ 101 ∷ 114 ∷ 121 ∷ 32 ∷ 114 ∷ 101 ∷ 102 ∷ 117 ∷ 115 ∷ 101 ∷ 100 ∷ 32 ∷ 49 ∷ 50 ∷ 10 ∷ []
+twelve = refused (49 ∷ 50 ∷ [])
 
 -- "book refused" with the digits of a number
 unfoldable pub stopped : List ℕ → List ℕ
@@ -158,30 +162,59 @@ runs =
     ∷ record { gives = run (Removed 1 ∷ Removed 3 ∷ []); says = twelve }  -- one that matches, and one that does not
     ∷ []
 
+-- ---- runs of the unit, by request 7
+
+-- attributes 0, a name, and 1, a date; object 0 of both, with a row whose name is its date and one where it is not
+unfoldable pub dated : List Record
+dated = Attribute 0 0 ∷ Attribute 1 3 ∷ Object 0 3 ∷ Row 0 7 7 0 0 0 0 ∷ Row 0 8 9 0 0 0 0 ∷ []
+
+-- the built-in table, with all six operators between names and dates
+unfoldable pub club : Record
+club = Comparisons 1056964611 16128 196608 1056964671
+
+-- what the unit prints with these records behind them, for the names that equal their dates
+unfoldable pub asked : List Record → List ℕ
+asked rs =
+    printout (bytesOfAll (dated ++ rs)) (bytesOfAll (Item 0 0 ∷ CompareTwo 0 0 0 0 1 ∷ End ∷ []))
+
+unfoldable pub datedRuns : List Trial
+datedRuns =
+    record { gives = asked []; says = refused (49 ∷ 49 ∷ []) }  -- the built-in table: 11
+    ∷ record { gives = asked (club ∷ []); says = first }  -- the club's
+    -- dates without their mirrors, 20; two tables, 4
+    ∷ record { gives = asked (Comparisons 1056964611 16128 196608 1056964608 ∷ []); says = stopped (50 ∷ 48 ∷ []) }
+    ∷ record { gives = asked (club ∷ club ∷ []); says = stopped (52 ∷ []) }
+    ∷ []
+
 -- ---- the theorems
 
 all-hold :
     (map (λ t. t .gives) starred ≡ map (λ t. t .says) starred)
     × (map (λ t. t .gives) runs ≡ map (λ t. t .says) runs)
-unfolding runs run apart first second twelve stopped output queries printout answers answersWithin fullText headLine
-    rowLines cellTexts line behind bookRefused queryRefused cellText integerText decimal decimalWithin number
-    spaceNumber rowsOf answerRows itemKinds choices inFront rowsFor cellsOf allTrue isTrue rightCell itemCells
-    Answers.rowsOf connection parts insertRows insertRow lessRow tablesOf Tables.rowsOf Tables.rowOf Tables.cellsOf
-    part joinRows goingOn eachPassing matchesAll rowsMatch allPass lowestStanding lowestFor shown together project
-    projected holds compares matches lessCell valueOf signed refusal Query.read atEnd wholeNumber someUnconnected
-    unconnected isNil containing walkQuery isEnd Queries.faultOf Queries.checks ofQuery askedOf filled attributesNamed
-    naming namesOf nameOf comparisonsOf comparisonOf itemsOf itemOf allows starred banking sizes survey ring read
-    afterLast lastFault lastNumber records walk walkFrom shortNumber withRow isRow maximalsOf declare withOnly
-    withRemoved withDeclared withDependency withObject withAttribute nothingDeclared faultOf checks maximalChecks
-    rowChecks wrongCells someOutside someNonZero firstOf ofBook cyclicOf bothOf maximalOf computedOf pairs someCyclic
-    counted bothKinds maximalObjects adding removing isOne computed grown rounds holding joins attributesOf familyOf
-    closure passes pass cellOf readAt readFront recordOf bodies bytesOfAll bytesOf kindOf bodyLength whose kinds
-    isKind field value bytes kept keptOf keeps goes goesFor acyclic left settle staying stays removable someHolds
-    around union inRange members rank isEmpty single _∖_ _∪_ _∩_ within has bit
-all-hold = (refl, refl)
+    × (map (λ t. t .gives) datedRuns ≡ map (λ t. t .says) datedRuns)
+unfolding datedRuns asked club dated refused keepsRules entryKeeps everyBelow mirrored withTable runs run apart first
+    second twelve stopped output queries printout answers answersWithin fullText headLine rowLines cellTexts line
+    behind bookRefused queryRefused cellText integerText decimal decimalWithin number spaceNumber rowsOf answerRows
+    itemKinds choices inFront rowsFor cellsOf allTrue isTrue rightKind rightCell itemCells Answers.rowsOf connection
+    parts insertRows insertRow lessRow tablesOf Tables.rowsOf Tables.rowOf Tables.cellsOf part joinRows goingOn
+    eachPassing matchesAll rowsMatch allPass lowestStanding lowestFor shown together project projected holds compares
+    matches lessCell valueOf signed refusal Query.read atEnd wholeNumber someUnconnected unconnected isNil containing
+    walkQuery isEnd Queries.faultOf Queries.checks ofQuery askedOf filled attributesNamed naming namesOf nameOf
+    comparisonsOf comparisonOf itemsOf itemOf allows builtIn starred banking sizes survey ring read afterLast
+    lastFault lastNumber records walk walkFrom shortNumber withRow isRow maximalsOf declare withOnly withRemoved
+    withDeclared withDependency withObject withAttribute nothingDeclared faultOf checks maximalChecks rowChecks
+    wrongCells someOutside someNonZero firstOf ofBook cyclicOf bothOf maximalOf computedOf pairs someCyclic counted
+    bothKinds maximalObjects adding removing isOne computed grown rounds holding joins attributesOf familyOf closure
+    passes pass cellOf readAt readFront recordOf bodies bytesOfAll bytesOf kindOf bodyLength whose kinds isKind field
+    value bytes kept keptOf keeps goes goesFor acyclic left settle staying stays removable someHolds around union
+    inRange members rank isEmpty single _∖_ _∪_ _∩_ within has bit
+all-hold = (refl, refl, refl)
 
 pub starred-hold : map (λ t. t .gives) starred ≡ map (λ t. t .says) starred
 starred-hold = all-hold .0
 
 pub runs-hold : map (λ t. t .gives) runs ≡ map (λ t. t .says) runs
 runs-hold = all-hold .1
+
+pub dated-runs-hold : map (λ t. t .gives) datedRuns ≡ map (λ t. t .says) datedRuns
+dated-runs-hold = all-hold .2

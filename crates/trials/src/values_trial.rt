@@ -1,4 +1,4 @@
-// The comparison table, and range and order of extreme cells, for each value kind.
+// The built-in comparison table, and range and order of extreme cells, for each value kind.
 use crate::text;
 
 // One line for a left and a right kind: which of the operators 0 to 5 are allowed.
@@ -9,7 +9,8 @@ fn operators_line(left: u8, right: u8) {
     text::number(right as u64);
     text::put(b' ');
     for operator in 0..6u8 {
-        text::flag(values::allowed(operator, left, right));
+        let table = values::built_in();
+        text::flag(values::allowed(table, operator, left, right));
     }
     text::put(b'\n');
 }

@@ -1,16 +1,17 @@
 -- The theorems of `specs/Statements.antt`, in its order.
--- In order: the order by value, operators, the comparison table.
+-- In order: the order by value, operators, the comparison table and its rules, sides turned.
 -- Assumes nothing.
-use mathlib.Core.Path.{refl}
+use mathlib.Core.Path.{refl, _∙_}
 use mathlib.Core.Bool.{or-false}
 use Prim.Native.Nat.{ℕ}
-use Rattle.values.specs.Operators.{allows}
-use Rattle.values.specs.Statements.{OrderedByValue, OperatorsMean, TableAllows, AllowedMeans, Turned}
+use Rattle.values.specs.Table.{builtIn}
+use Rattle.values.specs.Statements.{OrderedByValue, OrderedAcross, OperatorsMean, TableAllows, RulesTested}
+use Rattle.values.specs.Statements.{BuiltInKeeps, AllowedMeans, Turned}
 use Rattle.values.proofs.Values.{less-agrees, less-irreflexive, less-transitive, less-total}
-use Rattle.values.proofs.Values.{less-key, key-injective}
+use Rattle.values.proofs.Values.{less-key, key-injective, raised-order}
 use Rattle.values.proofs.Operators.{numbered, holds-means, holds-means-number, holds-mirror, holds-opposite}
-use Rattle.values.proofs.Operators.{allows-same, allows-none, allows-no-left, allows-known, below-two, below-six}
-use Rattle.values.proofs.Operators.{allows-mirror}
+use Rattle.values.proofs.Table.{rule, rule-none, built-in-rule, within-two, within-six, allows-no-left}
+use Rattle.values.proofs.Table.{allows-known, rules-tested, built-in-keeps, allows-mirror}
 
 pub ordered-by-value : (kind : ℕ) → OrderedByValue kind
 ordered-by-value kind = record {
@@ -22,26 +23,38 @@ ordered-by-value kind = record {
   apart = key-injective kind;
 }
 
+pub ordered-across : OrderedAcross
+unfolding OrderedAcross
+ordered-across kind kind2 a b p q = raised-order kind kind2 p q
+
 pub operators-mean : OperatorsMean
 unfolding OperatorsMean
 operators-mean = holds-means
 
 pub table-allows : TableAllows
-unfolding allows
+unfolding rule
 table-allows = record {
-  names = λ operator. below-two operator (or-false _);
-  angles = λ operator. below-two operator (or-false _);
-  lengths = λ operator. below-six operator refl;
-  dates = λ operator. below-six operator refl;
-  between = allows-none;
-  noKind = λ operator kind. allows-no-left operator kind kind;
+  names = λ operator. within-two operator 0 (or-false _);
+  angles = λ operator. within-two operator 2 (or-false _);
+  lengths = λ operator. within-six operator 1 refl;
+  dates = λ operator. within-six operator 3 refl;
+  between = λ operator left right f. built-in-rule operator left right ∙ rule-none operator left right f;
+  noKind = λ operator kind. allows-no-left builtIn operator kind kind;
 }
+
+pub rules-are-tested : RulesTested
+unfolding RulesTested
+rules-are-tested = rules-tested
+
+pub built-in-table-keeps : BuiltInKeeps
+unfolding BuiltInKeeps
+built-in-table-keeps = built-in-keeps
 
 pub allowed-means : AllowedMeans
 unfolding AllowedMeans
-allowed-means operator left right a b e =
-    let (o, p) = numbered operator (allows-known operator left right e) in
-    (o, p, holds-means-number o operator left right a b p (allows-same operator left right e))
+allowed-means table operator left right a b e =
+    let (o, p) = numbered operator (allows-known table operator left right e .0) in
+    (o, p, holds-means-number o operator left right a b p)
 
 pub turned : Turned
 turned = record { allowed = allows-mirror; held = holds-mirror; denied = holds-opposite }

@@ -1,5 +1,5 @@
 -- Laws of cells, their values and their keys, in the order of `specs/Values.antt`.
--- In order: the range, lengths, keys and values, the order by value, match.
+-- In order: the range, lengths, keys and values, the order by value, values of any two kinds, match.
 -- Assumes nothing.
 use mathlib.Core.Path.{_≡_, refl, sym, ap, ap₂, _∙_}
 use mathlib.Core.Bool.{Bool, true, false, not, cond, _&&_, and-true}
@@ -10,7 +10,7 @@ use lib.Dec.{eqb, ltb, leb}
 use lib.IntN.{pos, negsuc}
 use lib.Signed.{ltZ, leZ, _<ℤ_, <ℤ-irrefl, <ℤ-≤ℤ-trans}
 use borrow.Author.Tests as Tests
-use Rattle.values.specs.Values.{length, angle, inRange, signed, valueOf, lessCell, key, matches}
+use Rattle.values.specs.Values.{length, angle, inRange, signed, valueOf, lessCell, key, raised, matches}
 use Rattle.values.specs.Operators.{eqZ}
 use Rattle.values.proofs.Tests.{not-true, ltb-same, leb-not-ltb, eqb-not-ltb}
 use Rattle.values.proofs.Tests.{leZ-not-ltZ, eqZ-not-ltZ, ltZ-true, <ℤ-≤ℤ}
@@ -80,20 +80,6 @@ key-lt kind {a} {b} p q = by (eqb kind length)
     by true = length-key-lt p q
     by false = refl
 
-pub key-le : (kind : ℕ) {a b : ℕ} → a < 2 ^ 32 → b < 2 ^ 32
-    → leb (key kind a) (key kind b) ≡ leZ (valueOf kind a) (valueOf kind b)
-key-le kind {a} {b} p q =
-    leb-not-ltb (key kind a) (key kind b)
-    ∙ ap not (key-lt kind q p)
-    ∙ sym (leZ-not-ltZ (valueOf kind a) (valueOf kind b))
-
-pub key-eq : (kind : ℕ) {a b : ℕ} → a < 2 ^ 32 → b < 2 ^ 32
-    → eqb (key kind a) (key kind b) ≡ eqZ (valueOf kind a) (valueOf kind b)
-key-eq kind {a} {b} p q =
-    eqb-not-ltb (key kind a) (key kind b)
-    ∙ ap₂ (λ s t. not s && not t) (key-lt kind p q) (key-lt kind q p)
-    ∙ sym (eqZ-not-ltZ (valueOf kind a) (valueOf kind b))
-
 pub key-injective : (kind : ℕ) {a b : ℕ} → a < 2 ^ 32 → b < 2 ^ 32 → key kind a ≡ key kind b → a ≡ b
 unfolding key
 key-injective kind {a} {b} p q e = by (eqb kind length) e
@@ -137,6 +123,77 @@ less-total kind {a} {b} p q = by (ltb (key kind a) (key kind b)) (ltb (key kind 
         let low = Tests.ltb-false (key kind a) (key kind b) d in
         let high = Tests.ltb-false (key kind b) (key kind a) e in
         inr (inl (key-injective kind p q (omega arith)))
+
+-- ---- values of any two kinds
+
+pub raised-length : (kind cell : ℕ) {k : ℕ} → kind ≡ length → k ≡ key kind cell → k ≡ raised kind cell
+unfolding raised
+raised-length kind cell e d = d ∙ sym (rw (Tests.eq-eqb kind length e))
+
+pub raised-other : (kind cell : ℕ) {k : ℕ} → ¬ (kind ≡ length) → k ≡ key kind cell → k + 2 ^ 31 ≡ raised kind cell
+unfolding raised
+raised-other kind cell f d = ap (λ (n : ℕ). n + 2 ^ 31) d ∙ sym (rw (Tests.ne-eqb kind length f))
+
+-- a length beside a value of another kind
+length-below : {a : ℕ} (b : ℕ) → a < 2 ^ 32 → ltb (lengthKey a) (b + 2 ^ 31) ≡ ltZ (signed a) (pos b)
+length-below {a} b p = by (halves a)
+  where
+    by : (a < 2 ^ 31) ⊎ (2 ^ 31 ≤ a) → ltb (lengthKey a) (b + 2 ^ 31) ≡ ltZ (signed a) (pos b)
+    by (inl h) = rw (signed-small h) (ltb-same (lengthKey a) (b + 2 ^ 31) a b (omega arith) (omega arith))
+    by (inr h) = rw (signed-large h p) (Tests.lt-ltb (lengthKey a) (b + 2 ^ 31) (omega arith))
+
+length-above : (a : ℕ) {b : ℕ} → b < 2 ^ 32 → ltb (a + 2 ^ 31) (lengthKey b) ≡ ltZ (pos a) (signed b)
+length-above a {b} q = by (halves b)
+  where
+    by : (b < 2 ^ 31) ⊎ (2 ^ 31 ≤ b) → ltb (a + 2 ^ 31) (lengthKey b) ≡ ltZ (pos a) (signed b)
+    by (inl h) = rw (signed-small h) (ltb-same (a + 2 ^ 31) (lengthKey b) a b (omega arith) (omega arith))
+    by (inr h) = rw (signed-large h q) (Tests.le-ltb (a + 2 ^ 31) (lengthKey b) (omega arith))
+
+pub raised-lt : (kind kind2 : ℕ) {a b : ℕ} → a < 2 ^ 32 → b < 2 ^ 32
+    → ltb (raised kind a) (raised kind2 b) ≡ ltZ (valueOf kind a) (valueOf kind2 b)
+unfolding raised key valueOf
+raised-lt kind kind2 {a} {b} p q = by (eqb kind length) (eqb kind2 length)
+  where
+    by : (s t : Bool)
+        → ltb (cond s (cond s (lengthKey a) a) (cond s (lengthKey a) a + 2 ^ 31))
+        (cond t (cond t (lengthKey b) b) (cond t (lengthKey b) b + 2 ^ 31))
+        ≡ ltZ (cond s (signed a) (pos a)) (cond t (signed b) (pos b))
+    by true true = length-key-lt p q
+    by true false = length-below b p
+    by false true = length-above a q
+    by false false = ltb-same (a + 2 ^ 31) (b + 2 ^ 31) a b (omega arith) (omega arith)
+
+pub raised-le : (kind kind2 : ℕ) {a b : ℕ} → a < 2 ^ 32 → b < 2 ^ 32
+    → leb (raised kind a) (raised kind2 b) ≡ leZ (valueOf kind a) (valueOf kind2 b)
+raised-le kind kind2 {a} {b} p q =
+    leb-not-ltb (raised kind a) (raised kind2 b)
+    ∙ ap not (raised-lt kind2 kind q p)
+    ∙ sym (leZ-not-ltZ (valueOf kind a) (valueOf kind2 b))
+
+pub raised-eq : (kind kind2 : ℕ) {a b : ℕ} → a < 2 ^ 32 → b < 2 ^ 32
+    → eqb (raised kind a) (raised kind2 b) ≡ eqZ (valueOf kind a) (valueOf kind2 b)
+raised-eq kind kind2 {a} {b} p q =
+    eqb-not-ltb (raised kind a) (raised kind2 b)
+    ∙ ap₂ (λ s t. not s && not t) (raised-lt kind kind2 p q) (raised-lt kind2 kind q p)
+    ∙ sym (eqZ-not-ltZ (valueOf kind a) (valueOf kind2 b))
+
+-- two cells of one kind with one raised number are one
+pub raised-injective : (kind : ℕ) {a b : ℕ} → a < 2 ^ 32 → b < 2 ^ 32 → raised kind a ≡ raised kind b → a ≡ b
+unfolding raised key
+raised-injective kind {a} {b} p q e = by (eqb kind length) e
+  where
+    by : (t : Bool)
+        → cond t (cond t (lengthKey a) a) (cond t (lengthKey a) a + 2 ^ 31)
+        ≡ cond t (cond t (lengthKey b) b) (cond t (lengthKey b) b + 2 ^ 31) → a ≡ b
+    by true e′ = omega arith
+    by false e′ = omega arith
+
+pub raised-order : (kind kind2 : ℕ) {a b : ℕ} → a < 2 ^ 32 → b < 2 ^ 32
+    → (raised kind a < raised kind2 b) ↔ (valueOf kind a <ℤ valueOf kind2 b)
+raised-order kind kind2 {a} {b} p q = (
+  λ h. ltZ-true _ _ .0 (sym (raised-lt kind kind2 p q) ∙ Tests.lt-ltb _ _ h),
+  λ h. Tests.ltb-true _ _ (raised-lt kind kind2 p q ∙ ltZ-true _ _ .1 h),
+)
 
 -- ---- match
 

@@ -1,3 +1,4 @@
 pub mod Values
 pub mod Operators
+pub mod Table
 pub mod Statements

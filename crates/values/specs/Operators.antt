@@ -1,16 +1,17 @@
--- Operators and the comparison table: "Records" of the paper, the paragraph that begins "Value kinds".
--- In order: operators and their numbers, what each means of two values, the test by number, the table, and the
--- operators that say the same with the sides turned (`mirror`) and the contrary (`opposite`).
+-- Operators: "Records" of the paper, the paragraph that begins "Value kinds".
+-- In order: operators and their numbers, what each means of two values, the test by number, and the operators that say
+-- the same with the sides turned (`mirror`) and the contrary (`opposite`).
+-- Not here: the comparison table (`Table`).
 -- Assumes nothing.
 use mathlib.Core.Path.{_≡_}
-use mathlib.Core.Bool.{Bool, false, not, _&&_, _||_}
+use mathlib.Core.Bool.{Bool, false, not}
 use mathlib.Core.List.{[], _∷_}
 use Prim.Native.Nat.{ℕ}
-use lib.Dec.{eqb, ltb}
+use lib.Dec.{eqb}
 use lib.IntN.{ℤ, pos, negsuc}
 use lib.ListN.{getD}
 use lib.Signed.{ltZ, leZ, _<ℤ_, _≤ℤ_}
-use Rattle.values.specs.Values.{name, length, angle, date, valueOf}
+use Rattle.values.specs.Values.{valueOf}
 
 pub data Operator : Type 0 where
   equal unequal less atMost greater atLeast : Operator
@@ -45,16 +46,10 @@ unfoldable pub compares : ℕ → ℤ → ℤ → Bool
 compares operator x y =
     getD (eqZ x y ∷ not (eqZ x y) ∷ ltZ x y ∷ leZ x y ∷ ltZ y x ∷ leZ y x ∷ []) operator false
 
--- Whether an operator, by its number, holds of two cells of one kind.
-unfoldable pub holds : ℕ → ℕ → ℕ → ℕ → Bool
-holds operator kind left right = compares operator (valueOf kind left) (valueOf kind right)
-
--- "The comparison table .. allows 0 and 1 within names and within angles, all six within lengths and within dates, and
--- none between different kinds." A number over 3 is no kind, one over 5 no operator.
-unfoldable pub allows : ℕ → ℕ → ℕ → Bool
-allows operator left right =
-    eqb left right
-    && ((eqb left name || eqb left angle) && ltb operator 2 || (eqb left length || eqb left date) && ltb operator 6)
+-- Whether an operator, by its number, holds of two cells, each of its own kind. "Between kinds, values are compared as
+-- whole numbers." (request 7)
+unfoldable pub holds : ℕ → ℕ → ℕ → ℕ → ℕ → Bool
+holds operator kind kind2 left right = compares operator (valueOf kind left) (valueOf kind2 right)
 
 -- The operator that says the same with the sides turned: less with greater, at most with at least, equal and unequal
 -- each with itself.

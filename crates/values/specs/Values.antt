@@ -44,6 +44,11 @@ lessCell kind a b = ltZ (valueOf kind a) (valueOf kind b)
 unfoldable pub key : ℕ → ℕ → ℕ
 key kind cell = cond (eqb kind length) ((cell + 2 ^ 31) % 2 ^ 32) cell
 
+-- An unsigned number for a cell; the numbers of two cells, of whatever kinds, stand in the order of their values: each is
+-- the value moved up by 2 ^ 31. "Between kinds, values are compared as whole numbers." (request 7)
+unfoldable pub raised : ℕ → ℕ → ℕ
+raised kind cell = cond (eqb kind length) (key kind cell) (key kind cell + 2 ^ 31)
+
 -- Whether two cells of one value kind match in a join.
 unfoldable pub matches : ℕ → ℕ → ℕ → Bool
 matches kind a b = eqb a b

@@ -1,6 +1,6 @@
 -- `book::declare` meets its contract: a record without a fault has a place for what it adds. Assumes nothing.
 use Rattle.book.proofs.Declaring.{same-fault, attribute-accepted, object-accepted, dependency-accepted}
-use Rattle.book.proofs.Declaring.{declared-accepted, removed-accepted, adds-nothing}
+use Rattle.book.proofs.Declaring.{declared-accepted, removed-accepted, table-accepted, adds-nothing}
 use mathlib.Core.Path.{ap, sym, _∙_}
 use Rattle.book.specs.Declaring.{declare}
 use borrow.Author.Needs.{needs}
@@ -42,6 +42,13 @@ with-removed-requires : tie.Need-with-removed-requires
 with-removed-requires c κs =
     removed-accepted _ _ (same-fault _ (c .before .r5 .given .1) (c .before .before .before .pre)) .room
 
+enum-known-r-6 : tie.Need-enum-known-r-6
+enum-known-r-6 c = search needs
+
+with-table-requires : tie.Need-with-table-requires
+with-table-requires c κs =
+    table-accepted _ _ _ _ _ (same-fault _ (c .before .r6 .given .1) (c .before .before .before .pre)) .room
+
 enum-told : tie.Need-enum-told
 enum-told c = search needs
 
@@ -81,10 +88,16 @@ returns-5 c =
 returns-6 : tie.Need-returns-6
 unfolding declare
 returns-6 c =
-    c .with-only .ensures ∙ ap (declare (c .before .before .before .args .s)) (sym (c .before .enum-told .given .1))
+    c .with-table .ensures ∙ ap (declare (c .before .before .before .before .args .s)) (sym (c .before .before .r6
+    .given .1))
 
 returns-7 : tie.Need-returns-7
-returns-7 c = adds-nothing _ _ (c .match .keys7)
+unfolding declare
+returns-7 c =
+    c .with-only .ensures ∙ ap (declare (c .before .before .before .args .s)) (sym (c .before .enum-told .given .1))
+
+returns-8 : tie.Need-returns-8
+returns-8 c = adds-nothing _ _ (c .match .keys8)
 
 pub declare-spec : {M : Type 1} → statement M
 declare-spec =
@@ -100,6 +113,8 @@ declare-spec =
     with-declared-requires
     enum-known-r-5
     with-removed-requires
+    enum-known-r-6
+    with-table-requires
     enum-told
     with-only-requires
     returns
@@ -108,4 +123,5 @@ declare-spec =
     returns-4
     returns-5
     returns-6
-    returns-7)
+    returns-7
+    returns-8)

@@ -43,6 +43,12 @@ enum-known-r-6 c = search needs
 maximal-fault-requires-2 : tie.Need-maximal-fault-requires-2
 maximal-fault-requires-2 c κs = search needs
 
+enum-known-r-7 : tie.Need-enum-known-r-7
+enum-known-r-7 c = search needs
+
+table-fault-requires : tie.Need-table-fault-requires
+table-fault-requires c κs = search needs
+
 enum-told : tie.Need-enum-told
 enum-told c = search needs
 
@@ -80,11 +86,16 @@ returns-6 c =
     .given .1))
 
 returns-7 : tie.Need-returns-7
-unfolding faultOf checks firstOf
-returns-7 c = ap (faultOf (c .before .before .args .s)) (sym (c .enum-told .given .1))
+returns-7 c =
+    c .table-fault .ensures ∙ ap (faultOf (c .before .before .before .before .args .s)) (sym (c .before .before .r7
+    .given .1))
 
 returns-8 : tie.Need-returns-8
-returns-8 c = not-of-a-book _ _ (c .match .keys8)
+unfolding faultOf checks firstOf
+returns-8 c = ap (faultOf (c .before .before .args .s)) (sym (c .enum-told .given .1))
+
+returns-9 : tie.Need-returns-9
+returns-9 c = not-of-a-book _ _ (c .match .keys9)
 
 pub fault-spec : {M : Type 1} → statement M
 fault-spec =
@@ -102,6 +113,8 @@ fault-spec =
     maximal-fault-requires
     enum-known-r-6
     maximal-fault-requires-2
+    enum-known-r-7
+    table-fault-requires
     enum-told
     returns
     returns-2
@@ -110,4 +123,5 @@ fault-spec =
     returns-5
     returns-6
     returns-7
-    returns-8)
+    returns-8
+    returns-9)

@@ -92,6 +92,12 @@ slice-aggregate-print-text-14 c = search needs
 print-text-requires-14 : tie.Need-print-text-requires-14
 print-text-requires-14 c κs = search needs
 
+slice-aggregate-print-text-15 : tie.Need-slice-aggregate-print-text-15
+slice-aggregate-print-text-15 c = search needs
+
+print-text-requires-15 : tie.Need-print-text-requires-15
+print-text-requires-15 c κs = search needs
+
 same-length : tie.Need-same-length
 same-length c = search needs
 
@@ -215,17 +221,27 @@ same-length-14 c = search needs
 returns-14 : tie.Need-returns-14
 unfolding words hasWords
 returns-14 c =
-    words-are _ _ {k = 21} (omega (arith, c .before .before .before .before .before .match .keys14)) refl
+    words-are _ _ {k = 20} (omega (arith, c .before .before .before .before .before .match .keys14)) refl
     refl (c .before .before .print-text14 .ensures)
 
+same-length-15 : tie.Need-same-length-15
+same-length-15 c = search needs
+
 returns-15 : tie.Need-returns-15
+unfolding words hasWords
 returns-15 c =
+    words-are _ _ {k = 21} (omega (arith, c .before .before .before .before .before .match .keys15)) refl
+    refl (c .before .before .print-text15 .ensures)
+
+returns-16 : tie.Need-returns-16
+returns-16 c =
     let r = c .match .rest in
-    words-none _ _ (r .0 .0 .0 .0 .0 .0 .0 .0 .0 .0 .0 .0 .0 .1) (r .0 .0 .0 .0 .0 .0 .0 .0 .0 .0 .0 .0 .1)
-    (r .0 .0 .0 .0 .0 .0 .0 .0 .0 .0 .0 .1) (r .0 .0 .0 .0 .0 .0 .0 .0 .0 .0 .1)
-    (r .0 .0 .0 .0 .0 .0 .0 .0 .0 .1) (r .0 .0 .0 .0 .0 .0 .0 .0 .1) (r .0 .0 .0 .0 .0 .0 .0 .1)
-    (r .0 .0 .0 .0 .0 .0 .1) (r .0 .0 .0 .0 .0 .1) (r .0 .0 .0 .0 .1) (r .0 .0 .0 .1) (r .0 .0 .1) (r .0 .1)
-    (r .1)
+    words-none _ _
+    (r .0 .0 .0 .0 .0 .0 .0 .0 .0 .0 .0 .0 .0 .0 .1) (r .0 .0 .0 .0 .0 .0 .0 .0 .0 .0 .0 .0 .0 .1)
+    (r .0 .0 .0 .0 .0 .0 .0 .0 .0 .0 .0 .0 .1) (r .0 .0 .0 .0 .0 .0 .0 .0 .0 .0 .0 .1)
+    (r .0 .0 .0 .0 .0 .0 .0 .0 .0 .0 .1) (r .0 .0 .0 .0 .0 .0 .0 .0 .0 .1) (r .0 .0 .0 .0 .0 .0 .0 .0 .1)
+    (r .0 .0 .0 .0 .0 .0 .0 .1) (r .0 .0 .0 .0 .0 .0 .1) (r .0 .0 .0 .0 .0 .1) (r .0 .0 .0 .0 .1) (r .0 .0 .0 .1)
+    (r .0 .0 .1) (r .0 .1) (r .1)
 
 pub print-words-spec : {M : Type 1} → statement M
 print-words-spec =
@@ -259,6 +275,8 @@ print-words-spec =
     print-text-requires-13
     slice-aggregate-print-text-14
     print-text-requires-14
+    slice-aggregate-print-text-15
+    print-text-requires-15
     same-length
     returns
     same-length-2
@@ -287,4 +305,6 @@ print-words-spec =
     returns-13
     same-length-14
     returns-14
-    returns-15)
+    same-length-15
+    returns-15
+    returns-16)

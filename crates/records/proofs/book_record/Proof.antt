@@ -54,6 +54,10 @@ word-at-requires-5 : tie.Need-word-at-requires-5
 unfolding bodyLength kinds
 word-at-requires-5 c κs = omega (arith, ap bodyLength (c .match .keys6))
 
+comparisons-requires : tie.Need-comparisons-requires
+unfolding bodyLength kinds
+comparisons-requires c κs = omega (arith, ap bodyLength (c .match .keys7))
+
 returns : tie.Need-returns
 returns c = search (needs, attribute-at)
 
@@ -73,12 +77,15 @@ returns-6 : tie.Need-returns-6
 returns-6 c = search (needs, removed-at)
 
 returns-7 : tie.Need-returns-7
-returns-7 c =
+returns-7 c = rw (c .before .match .keys7) (c .comparisons .ensures)
+
+returns-8 : tie.Need-returns-8
+returns-8 c =
     let r = c .match .rest in
     let a = c .before .before .args in
     onlyDeclared-at (a .s .now) (a .kind) (a .body)
-    (last-of-book (a .kind) (c .before .before .pre .0) (r .0 .0 .0 .0 .0 .1) (r .0 .0 .0 .0 .1)
-    (r .0 .0 .0 .1) (r .0 .0 .1) (r .0 .1) (r .1))
+    (last-of-book (a .kind) (c .before .before .pre .0) (r .0 .0 .0 .0 .0 .0 .1) (r .0 .0 .0 .0 .0 .1)
+    (r .0 .0 .0 .0 .1) (r .0 .0 .0 .1) (r .0 .0 .1) (r .0 .1) (r .1))
 
 pub book-record-spec : {M : Type 1} → statement M
 book-record-spec =
@@ -96,10 +103,12 @@ book-record-spec =
     row-requires
     word-at-requires-4
     word-at-requires-5
+    comparisons-requires
     returns
     returns-2
     returns-3
     returns-4
     returns-5
     returns-6
-    returns-7)
+    returns-7
+    returns-8)

@@ -31,6 +31,9 @@ put-requires-2 c κs = search needs
 loop-holds : tie.Need-loop-holds Inv-loop μ-loop
 loop-holds c = search needs
 
+built-in-requires : tie.Need-built-in-requires Inv-loop μ-loop
+built-in-requires c κs = search needs
+
 allowed-requires : tie.Need-allowed-requires Inv-loop μ-loop
 allowed-requires c κs = search needs
 
@@ -65,6 +68,7 @@ operators-line-spec =
     number-requires-2
     put-requires-2
     loop-holds
+    built-in-requires
     allowed-requires
     flag-requires
     add-operator
