@@ -40,7 +40,7 @@ sub-if3 : tie.Need-sub-if3
 sub-if3 c = search needs
 
 returns-3 : tie.Need-returns-3
-returns-3 c = 
+returns-3 c =
     let a = c .before .before .before .before .before .before .before .args in
     let cut : length (now (a .s)) - (a .at + 1) < c .before .body-length .result = omega arith in
     search (needs, finds-short)
@@ -55,7 +55,7 @@ add-t15 : tie.Need-add-t15
 add-t15 c = search needs
 
 query-record-requires : tie.Need-query-record-requires
-query-record-requires c κs = 
+query-record-requires c κs =
     let known = c .before .before .before .before in
     let kind = finds-kind _ _ (known .before .is-kind .ensures) (known .if2 .left) in
     (other-kind _ kind (sym (c .before .of-book .ensures) ∙ c .if4 .left), omega arith)
