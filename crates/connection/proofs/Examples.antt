@@ -1,6 +1,6 @@
 -- Worked examples: what the definitions give beside what the paper says, each from the bytes of a book and of a query.
--- In order: books, queries, the trials: what is returned and the space; the rows. Two lists, for the memory that checking
--- them takes.
+-- In order: books, queries, the trials: what is returned and the space; the rows. Two lists, for the memory that
+-- checking them takes.
 -- Assumes nothing.
 use mathlib.Core.Path.{_≡_, refl}
 use mathlib.Core.List.{List, [], _∷_, _++_, map}
@@ -21,7 +21,7 @@ use Rattle.records.specs.declared.Record.the-variants.{Attribute, Object, Row, 
 use Rattle.reduction.specs.Kept.{union, around, someHolds, removable, stays, staying, settle, left, acyclic}
 use Rattle.reduction.specs.Kept.{goesFor, goes, keeps, keptOf, kept}
 use Rattle.relation.specs.Tables.{cellOf, projected, project}
-use Rattle.relation.specs.Joins.{together, shown, lowestFor, lowestStanding}
+use Rattle.relation.specs.Joins.{together, shownRows}
 use Rattle.relation.specs.Computed.{allPass, rowsMatch, matchesAll, eachPassing, goingOn, joinRows, part}
 use Rattle.scheme.specs.Dependencies.{pass, passes, closure}
 use Rattle.scheme.specs.Growing.{familyOf, attributesOf, joins, holding, rounds, grown}
@@ -99,7 +99,8 @@ pub record Trial : Type 0 where
 
 unfoldable pub outcomes : List Trial
 outcomes =
-    -- the printout: "Q 1 rows 2", "Q 2 rows 1", "Q 3 rows 3"; each query begins where the one before it was read to.
+    -- the printout: "Q 1 rows 2", "Q 2 rows 1"; request 2: "Query 3 of 01's printout then has `rows 4`"; each query
+    -- begins where the one before it was read to.
     -- "cells past the answer keep what they held"
     record {
       gives = outcome survey queries 0 (replicate 7 99);
@@ -111,7 +112,7 @@ outcomes =
     }
     ∷ record {
       gives = outcome survey (drop 22 queries) 2 (replicate 7 99);
-      says = (0 ∷ 3 ∷ 3 ∷ 4 ∷ []) ∷ (10 ∷ 11 ∷ 12 ∷ 99 ∷ 99 ∷ 99 ∷ 99 ∷ []) ∷ [];
+      says = (0 ∷ 4 ∷ 3 ∷ 4 ∷ []) ∷ (10 ∷ 11 ∷ 12 ∷ 13 ∷ 99 ∷ 99 ∷ 99 ∷ []) ∷ [];
     }
     -- "Space for exactly the rows: full; one cell less: 13.", which "sets all of it to zero"
     ∷ record {
@@ -156,8 +157,8 @@ unfolding outcomes outcome queries twoObjects lengths withEmpty survey ring spac
     withOnly withRemoved withDeclared withDependency withObject withAttribute nothingDeclared faultOf checks
     maximalChecks rowChecks wrongCells someOutside someNonZero ofBook cyclicOf bothOf maximalOf computedOf pairs
     someCyclic counted bothKinds maximalObjects adding removing isOne computed grown rounds holding joins attributesOf
-    familyOf closure passes pass part joinRows goingOn eachPassing matchesAll rowsMatch allPass lowestStanding
-    lowestFor shown together project projected cellOf kept keptOf keeps goes goesFor acyclic left settle staying stays
+    familyOf closure passes pass part joinRows goingOn eachPassing matchesAll rowsMatch allPass shownRows
+    together project projected cellOf kept keptOf keeps goes goesFor acyclic left settle staying stays
     removable someHolds around union walk walkFrom shortNumber firstOf readAt readFront recordOf bodies bytesOfAll
     bytesOf kindOf bodyLength isKind whose kinds field value bytes allows builtIn holds compares matches lessCell
     valueOf signed inRange members rank isEmpty single _∖_ _∪_ _∩_ within has bit
@@ -169,7 +170,7 @@ rowTrials =
     record { gives = rows withEmpty (Item 0 0 ∷ CompareTwo 1 4 0 1 4 ∷ []); says = [] }
     ∷ record {
       gives = rows (withEmpty ++ Row 3 6 0 0 0 0 0 ∷ []) (Item 0 0 ∷ CompareTwo 1 4 0 1 4 ∷ []);
-      says = (10 ∷ []) ∷ (11 ∷ []) ∷ (12 ∷ []) ∷ [];
+      says = (10 ∷ []) ∷ (11 ∷ []) ∷ (12 ∷ []) ∷ (13 ∷ []) ∷ [];
     }
     -- two variables, each with its own connection: leads of the same trip; two leads of the same trip
     ∷ record {
@@ -204,7 +205,7 @@ unfolding rowTrials rows twoObjects lengths withEmpty survey ring spaceAfter ans
     withDeclared withDependency withObject withAttribute nothingDeclared faultOf checks maximalChecks rowChecks
     wrongCells someOutside someNonZero ofBook cyclicOf bothOf maximalOf computedOf pairs someCyclic counted bothKinds
     maximalObjects adding removing isOne computed grown rounds holding joins attributesOf familyOf closure passes pass
-    part joinRows goingOn eachPassing matchesAll rowsMatch allPass lowestStanding lowestFor shown together project
+    part joinRows goingOn eachPassing matchesAll rowsMatch allPass shownRows together project
     projected cellOf kept keptOf keeps goes goesFor acyclic left settle staying stays removable someHolds around union
     walk walkFrom shortNumber firstOf readAt readFront recordOf bodies bytesOfAll bytesOf kindOf bodyLength isKind
     whose kinds field value bytes allows builtIn holds compares matches lessCell valueOf signed inRange members rank

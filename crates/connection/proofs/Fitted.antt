@@ -8,9 +8,8 @@ use Prim.Native.Nat.{ℕ, _<_}
 use lib.ListN.{getD}
 use Rattle.sets.specs.Sets.{_∈_, _⊆_, members}
 use Rattle.sets.proofs.Bits.{member-lt}
-use Rattle.sets.proofs.Sets.{∩-left}
 use Rattle.reduction.specs.Steps.{Family}
-use Rattle.reduction.specs.Kept.{union}
+use Rattle.reduction.specs.Kept.{union, kept}
 use Rattle.reduction.specs.Statements.{OfAttributes}
 use Rattle.reduction.proofs.Left.{union-⊇}
 use Rattle.records.specs.declared.Record.{Record}
@@ -18,8 +17,7 @@ use Rattle.relation.specs.Tables.{Row, cellOf, Table, family, projected, projec
 use Rattle.relation.proofs.Tables.{cell-projected, of-project, project-has}
 use Rattle.relation.proofs.Fitting.{FitsOn, AllFit, join-assigned, assigned-join}
 use Rattle.relation.proofs.KeptSets.{wanted-kept}
-use Rattle.relation.proofs.Standing.{family-shown}
-use Rattle.relation.proofs.Theorems.{lowest-stands}
+use Rattle.relation.proofs.Unions.{inside-unions}
 use Rattle.scheme.specs.Growing.{familyOf, attributesOf}
 use Rattle.book.specs.Reading.{Outcome}
 use Rattle.book.specs.TablesOf.{tablesOf}
@@ -28,10 +26,9 @@ use Rattle.query.specs.Asking.{attributesNamed}
 use Rattle.query.specs.Accepting.{NamedIn}
 use Rattle.connection.specs.Connection.{InPart, InConnection}
 use Rattle.connection.specs.Answers.{Cells, cellsOf, InAnswer, shownTables}
-use Rattle.plan.specs.Planned.{leftOf, Shows}
-use Rattle.connection.specs.Fitting.{RowFits, FitsObject, FitsVariable, FitsQuery}
+use Rattle.connection.specs.Fitting.{tableOf, RowFits, FitsObject, FitsVariable, FitsQuery}
 use Rattle.connection.specs.Statements.{NamesInRange}
-use Rattle.connection.proofs.Shown.{cutSet, tableOf, object-in-family, shown-has, of-shown}
+use Rattle.connection.proofs.Shown.{object-in-family, row-of-object, of-shown-row, shownOn, shown-has, of-shown}
 use Rattle.connection.proofs.Named.{AgreeOnNames, items-agree, true-agrees, shown-agree, forEach, for-each}
 
 module _ (b : List ℕ) (o : Outcome) (bounded : (M : ℕ) → OfAttributes (familyOf (o .scheme .sets) M)) where
@@ -42,44 +39,42 @@ module _ (b : List ℕ) (o : Outcome) (bounded : (M : ℕ) → OfAttributes (fam
   attribute-lt {M} {c} h i j =
       member-lt 32 (bounded M .bounded (getD (o .scheme .sets) c 0) (object-in-family (o .scheme .sets) M h i)) j
 
-  module _ {M X : ℕ} {ρ : ℕ → ℕ} where
-    row-fits-on : {c B : ℕ} → Shows (o .scheme .sets) M X c → RowFits b o M X c ρ
-        → FitsOn B ρ (project (cutSet (o .scheme .sets) M X c) (tableOf b o c))
+  module _ {M : ℕ} {ρ : ℕ → ℕ} where
+    row-fits-on : {K B : ℕ} → RowFits b o M K ρ → FitsOn B ρ (shownOn b o M K)
     unfolding project
-    row-fits-on {c} s r =
-        let S : ℕ = getD (o .scheme .sets) c 0 in
-        let K : ℕ = cutSet (o .scheme .sets) M X c in
+    row-fits-on {K} r =
+        let S : ℕ = getD (o .scheme .sets) (r .object) 0 in
         record {
           row = projected S K (r .row);
-          there = project-has K (tableOf b o c) (r .there);
+          there = row-of-object b o M (r .shown) (project-has K (tableOf b o (r .object)) (r .there));
           cells = λ a i _.
-              let h : a < 32 = attribute-lt (s .below) (s .there) (∩-left S (leftOf (o .scheme .sets) M X) i) in
+              let h : a < 32 = attribute-lt (r .shown .below) (r .shown .there) (r .shown .contains .each i) in
               cell-projected S (r .row) h i ∙ r .cells a h i;
         }
 
-    fits-on-row : {c B : ℕ} → cutSet (o .scheme .sets) M X c ⊆ B
-        → FitsOn B ρ (project (cutSet (o .scheme .sets) M X c) (tableOf b o c)) → RowFits b o M X c ρ
+    fits-on-row : {K B : ℕ} → K ⊆ B → FitsOn B ρ (shownOn b o M K) → RowFits b o M K ρ
     unfolding project
-    fits-on-row {c} w f =
-        let S : ℕ = getD (o .scheme .sets) c 0 in
-        let K : ℕ = cutSet (o .scheme .sets) M X c in
-        let p = of-project K (tableOf b o c) (f .there) in
+    fits-on-row {K} w f =
+        let (k, s, m) = of-shown-row b o M (f .there) in
+        let p = of-project K (tableOf b o k) m in
         record {
+          object = k;
+          shown = s;
           row = p .origin;
           there = p .there;
           cells = λ a h i.
-              sym (cell-projected S (p .origin) h i) ∙ ap (λ (row : Row). cellOf K row a) (sym (p .shows))
-              ∙ f .cells a i (w .each i);
+              sym (cell-projected (getD (o .scheme .sets) k 0) (p .origin) h i)
+              ∙ ap (λ (row : Row). cellOf K row a) (sym (p .shows)) ∙ f .cells a i (w .each i);
         }
 
-    object-fits-shown : {B : ℕ} → FitsObject b o M X ρ → AllFit B ρ (shownTables b o M X)
-    object-fits-shown {B} f T m =
-        let p = of-shown b o M X m in
-        subst (FitsOn B ρ) (sym (p .projects)) (row-fits-on (p .shows) (f .each (p .object) (p .shows)))
+    object-fits-shown : {X B : ℕ} → FitsObject b o M X ρ → AllFit B ρ (shownTables b o M X)
+    object-fits-shown {X} {B} f T m =
+        let (c, s, e) = of-shown b o M X m in
+        subst (FitsOn B ρ) (sym e) (row-fits-on (f .each c s))
 
-    shown-fits-object : AllFit (union (family (shownTables b o M X))) ρ (shownTables b o M X) → FitsObject b o M X ρ
-    unfolding project
-    shown-fits-object f = record {
+    shown-fits-object : {X : ℕ} → AllFit (union (family (shownTables b o M X))) ρ (shownTables b o M X)
+        → FitsObject b o M X ρ
+    shown-fits-object {X} f = record {
       each = λ c s.
           let m = shown-has b o M X s in
           fits-on-row (union-⊇ (Memᴰ·map (λ (T : Table). T .set) m)) (f _ m);
@@ -94,7 +89,7 @@ module _ (b : List ℕ) (o : Outcome) (bounded : (M : ℕ) → OfAttributes (fam
       let Ts : List Table = tablesOf b o M in
       let e = tables-family b o M in
       let of : OfAttributes (family Ts) = subst OfAttributes (sym e) (bounded M) in
-      subst (λ (F : Family). X ⊆ union F) (sym (family-shown (lowest-stands Ts X of .stands)))
+      inside-unions Ts (kept X (family Ts))
       (wanted-kept X (family Ts) of (subst (λ (F : Family). X ⊆ union F) (sym e) i))
 
   -- a row shows on X cells that fit M

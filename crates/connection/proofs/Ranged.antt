@@ -3,7 +3,7 @@
 -- Assumes nothing.
 use mathlib.Core.Path.{_≡_, sym, ap, _∙_, subst}
 use mathlib.Core.Bool.{Bool, true, false, cond, _&&_}
-use mathlib.Core.List.{List, List·Memᴰ, Memᴰ·map, Memᴰ·of-map}
+use mathlib.Core.List.{List, List·Memᴰ, Memᴰ·of-map}
 use Prim.Native.Nat.{ℕ, _<_, _^_}
 use native.Mathlib.Omega.{arith}
 use borrow.Author.Tests.{ltb-true}
@@ -11,22 +11,20 @@ use lib.Dec.{eqb, ltb}
 use lib.ListN.{getD}
 use Rattle.sets.specs.Sets.{_∈_}
 use Rattle.sets.proofs.Tests.{yes-and}
-use Rattle.sets.proofs.Sets.{∩-left}
-use Rattle.sets.proofs.Members.{members-has}
 use Rattle.values.specs.Values.{angle, inRange}
 use Rattle.reduction.specs.Statements.{OfAttributes}
 use Rattle.reduction.proofs.Left.{in-union}
-use Rattle.relation.specs.Tables.{Row, cellOf, Table, family, project}
+use Rattle.relation.specs.Tables.{Row, cellOf, Table, family}
 use Rattle.relation.proofs.Tables.{cell-of-map}
 use Rattle.scheme.specs.Growing.{familyOf}
 use Rattle.book.specs.Reading.{Outcome, read}
-use Rattle.book.specs.TablesOf.{rowsOf, tablesOf}
+use Rattle.book.specs.TablesOf.{rowsOf}
 use Rattle.book.proofs.Theorems.{tables-of-book}
 use Rattle.connection.specs.Connection.{InConnection}
 use Rattle.connection.specs.Answers.{shownTables}
-use Rattle.plan.specs.Planned.{leftOf, Shows}
-use Rattle.connection.specs.Fitting.{FitsObject, FitsVariable}
-use Rattle.connection.proofs.Shown.{cutSet, tableOf, of-shown}
+use Rattle.plan.specs.Planned.{Keeps, keptBy}
+use Rattle.connection.specs.Fitting.{tableOf, FitsObject, FitsVariable}
+use Rattle.connection.proofs.Shown.{table-there, of-shown}
 use Rattle.connection.proofs.Fitted.{wanted-shown, connection-cells}
 
 -- ---- cells of the book
@@ -39,10 +37,6 @@ in-range-lt kind cell e = by (eqb kind angle) e
     by true e = omega (arith, ltb-true cell 36000 e)
     by false e = ltb-true cell (2 ^ 32) (yes-and (ltb kind 4) (ltb cell (2 ^ 32)) e .1)
 
-table-there : {M c : ℕ} (b : List ℕ) (o : Outcome) → c < 32 → c ∈ M → List·Memᴰ (tableOf b o c) (tablesOf b o M)
-unfolding tablesOf
-table-there b o h i = Memᴰ·map (tableOf b o) (members-has 32 h i)
-
 module _ (b : List ℕ) where
   -- a cell is in the range of its attribute's value kind
   abbrev Ranged : ℕ → ℕ → Type 0
@@ -51,7 +45,7 @@ module _ (b : List ℕ) where
   cell-ranged : {M c a : ℕ} {row : Row} → c < 32 → c ∈ M → List·Memᴰ row (rowsOf b (read b .rows) c)
       → a ∈ getD (read b .scheme .sets) c 0 → Ranged a (cellOf (getD (read b .scheme .sets) c 0) row a)
   cell-ranged {M} {c} {a} {row} h i r j =
-      tables-of-book b M .rowsInRange (tableOf b (read b) c) (table-there b (read b) h i) row r .needed a j
+      tables-of-book b M .rowsInRange (tableOf b (read b) c) (table-there b (read b) M h i) row r .needed a j
 
   pub cell-lt : {M c a : ℕ} {row : Row} → c < 32 → c ∈ M → List·Memᴰ row (rowsOf b (read b .rows) c)
       → a ∈ getD (read b .scheme .sets) c 0 → cellOf (getD (read b .scheme .sets) c 0) row a < 2 ^ 32
@@ -62,21 +56,16 @@ module _ (b : List ℕ) where
   -- ---- cells that fit
 
   module _ (bounded : (M : ℕ) → OfAttributes (familyOf (read b .scheme .sets) M)) where
-    -- an attribute of a table shown is one of the kept set of an object
+    -- an attribute of a table shown is one of a kept set
     record HeldBy (M X a : ℕ) : Type 0 where
       object : ℕ
-      shows : Shows (read b .scheme .sets) M X object
-      held : a ∈ cutSet (read b .scheme .sets) M X object
+      keeps : Keeps (read b .scheme .sets) M X object
+      held : a ∈ keptBy (read b .scheme .sets) M X object
 
     shown-held : {M X a : ℕ} {T : Table} → List·Memᴰ T (shownTables b (read b) M X) → a ∈ T .set → HeldBy M X a
-    unfolding project
     shown-held {M} {X} {a} m i =
-        let p = of-shown b (read b) M X m in
-        record {
-          object = p .object;
-          shows = p .shows;
-          held = subst (λ (U : Table). a ∈ U .set) (p .projects) i;
-        }
+        let (c, s, e) = of-shown b (read b) M X m in
+        record { object = c; keeps = s; held = subst (λ (U : Table). a ∈ U .set) e i }
 
     fitting-held : {X a : ℕ} {ρ : ℕ → ℕ} (f : FitsVariable b (read b) X ρ) → a ∈ X → HeldBy (f .object) X a
     fitting-held {X} {a} f i =
@@ -87,9 +76,9 @@ module _ (b : List ℕ) where
 
     held-ranged : {M X a : ℕ} {ρ : ℕ → ℕ} → FitsObject b (read b) M X ρ → a < 32 → HeldBy M X a → Ranged a (ρ a)
     held-ranged {M} {X} {a} f h q =
-        subst (Ranged a) (f .each (q .object) (q .shows) .cells a h (q .held))
-        (cell-ranged {M = M} (q .shows .below) (q .shows .there) (f .each (q .object) (q .shows) .there)
-        (∩-left (getD (read b .scheme .sets) (q .object) 0) (leftOf (read b .scheme .sets) M X) (q .held)))
+        let r = f .each (q .object) (q .keeps) in
+        subst (Ranged a) (r .cells a h (q .held))
+        (cell-ranged {M = M} (r .shown .below) (r .shown .there) (r .there) (r .shown .contains .each (q .held)))
 
     fitting-ranged : {X a : ℕ} {ρ : ℕ → ℕ} → FitsVariable b (read b) X ρ → a < 32 → a ∈ X → Ranged a (ρ a)
     fitting-ranged f h i = held-ranged (f .fits) h (fitting-held f i)

@@ -20,7 +20,7 @@ use Rattle.connection.specs.Answers.{kindOf, itemKinds}
 use Rattle.connection.specs.Answering.{queryRead, rowsOf}
 use Rattle.connection.specs.Outcomes.{itemCount, AnswerNumberMeans, Demand1, PromiseE}
 use Rattle.connection.proofs.InRange.{read-in-range}
-use Rattle.connection.proofs.Shown.{shows-lowest, one-kept, kept-of-tables, tables-keep}
+use Rattle.connection.proofs.Shown.{one-kept, of-shown-row, row-of-object, kept-of-tables, tables-keep}
 use Rattle.connection.proofs.Connected.{of-connection, connection-has}
 use Rattle.connection.proofs.Fitted.{part-fits, fits-part, answer-fits-query, fits-query-answer}
 use Rattle.connection.proofs.Answered.{answer-rows, answer-ascending, answer-rows-of-kinds, only-answer}
@@ -123,8 +123,7 @@ promise-e b z M m X some inside =
     record {
       demand3 = due;
       kept = λ K. (kept-of-tables b (read b) M X, tables-keep b (read b) M X);
-      choice = due .programsChoice;
-      shownBy = λ c s. shows-lowest b (read b) M X s;
+      shown = λ K row. (of-shown-row b (read b) M, λ (k, s, m). row-of-object b (read b) M s m);
       part = λ row. (
         λ j.
             let f = part-fits b (read b) (bounded b) inside (record { joined = j }) in

@@ -1,5 +1,5 @@
 -- Answer rows by cells that fit the tables: what the search for them is held to. A cell is assumed for each attribute
--- of each variable; each kept set asks for a row of the object that shows it with these cells.
+-- of each variable; each kept set asks for a row with these cells of some object that shows it.
 -- In order: cells that fit a maximal object, cells that fit a query.
 -- Assumes nothing.
 use mathlib.Core.Path.{_≡_}
@@ -7,9 +7,9 @@ use mathlib.Core.Bool.{true}
 use mathlib.Core.List.{List, List·Memᴰ}
 use Prim.Native.Nat.{ℕ, _<_}
 use lib.ListN.{getD}
-use Rattle.sets.specs.Sets.{_∈_, _⊆_, _∩_}
+use Rattle.sets.specs.Sets.{_∈_, _⊆_}
 use Rattle.records.specs.declared.Record.{Record}
-use Rattle.relation.specs.Tables.{Row, cellOf}
+use Rattle.relation.specs.Tables.{Row, cellOf, Table}
 use Rattle.scheme.specs.Growing.{attributesOf}
 use Rattle.scheme.specs.OfScheme.{maximalOf}
 use Rattle.book.specs.Reading.{Outcome}
@@ -17,20 +17,25 @@ use Rattle.book.specs.TablesOf.{rowsOf}
 use Rattle.query.specs.declared.Comparison.{Comparison}
 use Rattle.query.specs.Asking.{itemsOf, comparisonsOf, attributesNamed}
 use Rattle.query.specs.Accepting.{NamedIn}
-use Rattle.plan.specs.Planned.{Shows, leftOf}
+use Rattle.plan.specs.Planned.{Keeps, keptBy, Shows}
 use Rattle.connection.specs.Answers.{Cells, itemCells, isTrue}
 
 -- ---- cells that fit a maximal object
 
--- a row of object c has these cells under the attributes of its kept set
-pub record RowFits (b : List ℕ) (o : Outcome) (M X c : ℕ) (at : ℕ → ℕ) : Type 0 where
+-- the table of an object
+abbrev pub tableOf : List ℕ → Outcome → ℕ → Table
+tableOf b o c = record { set = getD (o .scheme .sets) c 0; rows = rowsOf b (o .rows) c }
+
+-- some object of M that contains the set K has a row with these cells under K's attributes
+pub record RowFits (b : List ℕ) (o : Outcome) (M K : ℕ) (at : ℕ → ℕ) : Type 0 where
+  pub object : ℕ
+  pub shown : Shows (o .scheme .sets) M K object
   pub row : Row
-  pub there : List·Memᴰ row (rowsOf b (o .rows) c)
-  pub cells : (a : ℕ) → a < 32 → a ∈ getD (o .scheme .sets) c 0 ∩ leftOf (o .scheme .sets) M X
-      → cellOf (getD (o .scheme .sets) c 0) row a ≡ at a
+  pub there : List·Memᴰ row (rowsOf b (o .rows) object)
+  pub cells : (a : ℕ) → a < 32 → a ∈ K → cellOf (getD (o .scheme .sets) object 0) row a ≡ at a
 
 pub record FitsObject (b : List ℕ) (o : Outcome) (M X : ℕ) (at : ℕ → ℕ) : Type 0 where
-  pub each : (c : ℕ) → Shows (o .scheme .sets) M X c → RowFits b o M X c at
+  pub each : (c : ℕ) → Keeps (o .scheme .sets) M X c → RowFits b o M (keptBy (o .scheme .sets) M X c) at
 
 -- ---- cells that fit a query: for each variable named a maximal object that contains its attributes
 

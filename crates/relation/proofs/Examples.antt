@@ -14,8 +14,7 @@ use Rattle.values.specs.Values.{matches}
 use Rattle.reduction.specs.Kept.{union, around, someHolds, removable, stays, staying, settle, left}
 use Rattle.reduction.specs.Kept.{goesFor, goes, keeps, keptOf, kept}
 use Rattle.relation.specs.Tables.{cellOf, Table, SameRows, family, projected, project}
-use Rattle.relation.specs.Joins.{AgreePairwise, together, StandFor, none, one, shown, keptSets, lowestFor}
-use Rattle.relation.specs.Joins.{lowestStanding}
+use Rattle.relation.specs.Joins.{AgreePairwise, together, StandFor, none, one, shown, keptSets, shownRows}
 use Rattle.relation.specs.Computed.{allPass, rowsMatch, matchesAll, eachPassing, goingOn, joinRows, part}
 
 -- ---- the tables
@@ -62,23 +61,21 @@ keptJoin Ts X cs = joinRows kinds (shown Ts (keptSets Ts X) cs) X
 
 unfoldable pub trials : List Trial
 trials =
-    -- "Sacred {1,2} keeps {0,1} and {0,2}"; object 0 shows the one and object 1 the other
-    record {
-      gives = keptSets survey 6 ∷ lowestStanding survey (keptSets survey 6) ∷ [];
-      says = (3 ∷ 5 ∷ []) ∷ (0 ∷ 1 ∷ []) ∷ [];
-    }
+    -- "Sacred {1,2} keeps {0,1} and {0,2}"
+    record { gives = keptSets survey 6 ∷ []; says = (3 ∷ 5 ∷ []) ∷ [] }
     -- query 1 of the printout, LEAD and TRIP
     ∷ record { gives = part kinds survey 6; says = (501 ∷ 7 ∷ []) ∷ (502 ∷ 7 ∷ []) ∷ [] }
     -- query 2 before its comparison: LEAD, TRIP and DEPTH
     ∷ record { gives = part kinds survey 14; says = (501 ∷ 7 ∷ 4294964796 ∷ []) ∷ [] }
-    -- "Sacred {0} keeps {0}"; all three objects contain it and object 0 shows it
+    -- "Sacred {0} keeps {0}"; all three objects contain it and show it
+    ∷ record { gives = keptSets survey 1 ∷ []; says = (1 ∷ []) ∷ [] }
+    -- query 3, STATION: four stations, some shown by several objects
     ∷ record {
-      gives = keptSets survey 1 ∷ lowestStanding survey (keptSets survey 1) ∷ [];
-      says = (1 ∷ []) ∷ (0 ∷ []) ∷ [];
+      gives = part kinds survey 1;
+      says = (10 ∷ []) ∷ (11 ∷ []) ∷ (12 ∷ []) ∷ (10 ∷ []) ∷ (11 ∷ []) ∷ (13 ∷ []) ∷ (10 ∷ []) ∷ (12 ∷ []) ∷ [];
     }
-    -- query 3, STATION
-    ∷ record { gives = part kinds survey 1; says = (10 ∷ []) ∷ (11 ∷ []) ∷ (12 ∷ []) ∷ [] }
-    -- the same kept set shown by object 1 and by object 2: other rows, since the tables do not agree
+    -- the same kept set shown by one object: other rows for each, since the tables do not agree
+    ∷ record { gives = keptJoin survey 1 (0 ∷ []); says = (10 ∷ []) ∷ (11 ∷ []) ∷ (12 ∷ []) ∷ [] }
     ∷ record { gives = family (shown survey (keptSets survey 1) (1 ∷ [])) ∷ []; says = (1 ∷ []) ∷ [] }
     ∷ record { gives = keptJoin survey 1 (1 ∷ []); says = (10 ∷ []) ∷ (11 ∷ []) ∷ (13 ∷ []) ∷ [] }
     ∷ record { gives = family (shown survey (keptSets survey 1) (2 ∷ [])) ∷ []; says = (1 ∷ []) ∷ [] }
@@ -100,7 +97,7 @@ trials =
 
 pub trials-hold : map (λ t. t .gives) trials ≡ map (λ t. t .says) trials
 unfolding trials survey paired apart kinds part joinRows goingOn eachPassing matchesAll rowsMatch allPass together shown
-    project projected cellOf lowestStanding lowestFor kept keptOf keeps goes goesFor left settle staying stays
+    project projected cellOf shownRows kept keptOf keeps goes goesFor left settle staying stays
     removable someHolds around union bit has within _∩_ _∪_ single isEmpty rank members matches
 trials-hold = refl
 

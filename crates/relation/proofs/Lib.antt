@@ -5,6 +5,7 @@ pub mod Fitting
 pub mod KeptSets
 pub mod Backwards
 pub mod Standing
+pub mod Unions
 pub mod Computed
 pub mod Theorems
 pub mod Examples

@@ -12,15 +12,16 @@ use mathlib.Core.List.{List}
 use Prim.Native.Nat.{ℕ}
 use Rattle.reduction.specs.Statements.{KeptByEveryList}
 use Rattle.relation.specs.Tables.{Row, Table, family}
-use Rattle.relation.specs.Joins.{AgreePairwise, InFullJoin, StandFor, keptSets, InKeptJoin, lowestStanding}
+use Rattle.relation.specs.Joins.{AgreePairwise, InFullJoin, StandFor, keptSets, InKeptJoin}
+use Rattle.relation.specs.Statements.{UnionOfChoices}
 
 pub record Demand3 (kinds : List ℕ) (Ts : List Table) (X : ℕ) : Type 0 where
   -- "ends with exactly the program's kept sets, each once": "equal to them as a set of attribute sets, with none left
   -- twice"; and complete lists of both forms exist
   pub everyList : KeptByEveryList X (family Ts)
-  -- "each kept set is shown by the lowest-numbered object of M that contains it": this choice is one of those that may
-  -- stand, so there is one, and what follows holds of it
-  pub programsChoice : StandFor Ts (keptSets Ts X) (lowestStanding Ts (keptSets Ts X))
+  -- request 2: what the program computes for M, its part, is exactly the union of the joins over all choices, and
+  -- there is a choice, so that what follows is not empty
+  pub programsUnion : UnionOfChoices kinds Ts X
   -- "Whichever object of the maximal object stands for each kept set, the join over those kept sets has every row of
   -- the full join on the wanted columns"
   pub everyRow : (cs : List ℕ) → StandFor Ts (keptSets Ts X) cs → (row : Row) → InFullJoin kinds Ts X row

@@ -1,7 +1,7 @@
 -- What is proved of joins, for all tables over attributes 0 to 31, whatever their rows. Demand 3 as a whole is in
 -- `Demand3`; here are its parts on joins and what stands beside them.
--- In order: tables that share no attribute, tables that agree pairwise, no row is lost, no other row, the
--- lowest-numbered objects, computed joins. The proofs are in `proofs/Theorems.antt`.
+-- In order: tables that share no attribute, tables that agree pairwise, no row is lost, no other row, computed joins,
+-- the union of all choices. The proofs are in `proofs/Theorems.antt`.
 -- Assumes nothing.
 use mathlib.Core.Path.{_≡_}
 use mathlib.Core.Logic.{_⊎_, _↔_}
@@ -9,10 +9,10 @@ use mathlib.Core.List.{List, [], List·Memᴰ}
 use Prim.Native.Nat.{ℕ, _<_}
 use lib.ListN.{length, getD}
 use Rattle.sets.specs.Sets.{_∈_, _∉_, _⊆_, _∩_}
-use Rattle.reduction.specs.Steps.{at}
-use Rattle.relation.specs.Tables.{Row, cellOf, Table, SameRows, tableAt, project}
+use Rattle.reduction.specs.Steps.{at, Step, leaves, Complete, NodePermits, CoverPermits}
+use Rattle.relation.specs.Tables.{Row, cellOf, Table, SameRows, tableAt, family, project}
 use Rattle.relation.specs.Joins.{AgreePairwise, Picked, Matching, InJoin, InFullJoin, StandFor, keptSets}
-use Rattle.relation.specs.Joins.{InKeptJoin, lowestStanding}
+use Rattle.relation.specs.Joins.{InKeptJoin, InUnionJoin, InPart, InSomeChoice}
 use Rattle.relation.specs.Computed.{combinations, joinRows, part}
 
 -- "where they share none, both are empty or neither is": of two tables that share no attribute, to show the same rows
@@ -61,13 +61,6 @@ pub record NoOtherRow (kinds : List ℕ) (Ts : List Table) (X : ℕ) : Type 0 wh
   pub agreed : AgreePairwise Ts → (cs : List ℕ) → StandFor Ts (keptSets Ts X) cs → (row : Row)
       → InKeptJoin kinds Ts X cs row → InFullJoin kinds Ts X row
 
--- "each kept set is shown by the lowest-numbered object of M that contains it": this is one of the choices, and no
--- object before the chosen one contains the kept set
-pub record LowestStands (Ts : List Table) (X : ℕ) : Type 0 where
-  pub stands : StandFor Ts (keptSets Ts X) (lowestStanding Ts (keptSets Ts X))
-  pub lowest : (k i : ℕ) → k < length (keptSets Ts X) → i < getD (lowestStanding Ts (keptSets Ts X)) k 0
-      → at (keptSets Ts X) k ⊆ tableAt Ts i .set → ⊥
-
 -- the combinations found by early tests are exactly the choices of "one row of each table, cells matching under every
 -- attribute that two of the tables share"; and so the rows computed are exactly those of the natural join projected
 -- to X
@@ -77,10 +70,26 @@ pub record JoinComputed (kinds : List ℕ) (Ts : List Table) (X : ℕ) : Type 0 
   pub rowFound : (row : Row) → List·Memᴰ row (joinRows kinds Ts X) → InJoin kinds Ts X row
   pub findsRow : (row : Row) → InJoin kinds Ts X row → List·Memᴰ row (joinRows kinds Ts X)
 
--- "Their natural join, projected to X, is M's part": the part has exactly the rows of the join over the kept sets for
--- the lowest-numbered objects
+-- "Their natural join, projected to X, is M's part": the part computed has exactly the rows of the join over the unions
 pub record PartComputed (kinds : List ℕ) (Ts : List Table) (X : ℕ) : Type 0 where
-  pub rowFound : (row : Row) → List·Memᴰ row (part kinds Ts X)
-      → InKeptJoin kinds Ts X (lowestStanding Ts (keptSets Ts X)) row
-  pub findsRow : (row : Row) → InKeptJoin kinds Ts X (lowestStanding Ts (keptSets Ts X)) row
-      → List·Memᴰ row (part kinds Ts X)
+  pub rowFound : (row : Row) → List·Memᴰ row (part kinds Ts X) → InPart kinds Ts X row
+  pub findsRow : (row : Row) → InPart kinds Ts X row → List·Memᴰ row (part kinds Ts X)
+
+-- request 2: "M's part is then exactly the union, over every choice of objects that may stand for its kept sets, of
+-- demand 3's joins, on any tables at all and whatever the order of reduction"
+pub record UnionOfChoices (kinds : List ℕ) (Ts : List Table) (X : ℕ) : Type 0 where
+  -- there is a choice
+  pub someChoice : (cs : List ℕ) × StandFor Ts (keptSets Ts X) cs
+  pub ofKept : (row : Row) → InPart kinds Ts X row ↔ InSomeChoice kinds Ts (keptSets Ts X) X row
+  -- the sets that a complete list of either form leaves give the same part, and the same union of joins
+  pub node : (ms : List Step) → Complete (NodePermits X) (family Ts) ms → (row : Row)
+      → (InUnionJoin kinds Ts (leaves (family Ts) ms) X row ↔ InPart kinds Ts X row)
+      × (InSomeChoice kinds Ts (leaves (family Ts) ms) X row ↔ InPart kinds Ts X row)
+  pub cover : (ms : List Step) → Complete (CoverPermits X) (family Ts) ms → (row : Row)
+      → (InUnionJoin kinds Ts (leaves (family Ts) ms) X row ↔ InPart kinds Ts X row)
+      × (InSomeChoice kinds Ts (leaves (family Ts) ms) X row ↔ InPart kinds Ts X row)
+
+-- "equality with the full join is still claimed only under pairwise agreement"
+pub record PartHolds (kinds : List ℕ) (Ts : List Table) (X : ℕ) : Type 0 where
+  pub everyRow : (row : Row) → InFullJoin kinds Ts X row → InPart kinds Ts X row
+  pub equal : AgreePairwise Ts → (row : Row) → InFullJoin kinds Ts X row ↔ InPart kinds Ts X row

@@ -117,8 +117,8 @@ use Rattle.reduction.proofs.Theorems.{kept-by-every-list, cover-order, reduces-
 use Rattle.reduction.proofs.Examples.{examples-hold, triangle-is-cyclic, filled-triangle-is-acyclic}
 use Rattle.reduction.proofs.Examples.{station-by-node-steps, station-by-cover-steps, leads-and-trips-by-steps}
 use Rattle.reduction.proofs.Examples.{customers-and-banks-by-node-steps, customers-and-banks-by-cover-steps}
-use Rattle.relation.proofs.Theorems.{nothing-shared, agreement-by-clauses, every-row, no-other-row, lowest-stands}
-use Rattle.relation.proofs.Theorems.{join-computed, part-computed, demand3}
+use Rattle.relation.proofs.Theorems.{nothing-shared, agreement-by-clauses, every-row, no-other-row, join-computed}
+use Rattle.relation.proofs.Theorems.{part-computed, union-of-choices, part-holds, demand3}
 use Rattle.scheme.proofs.Theorems.{closure-is-least, closure-is-monotone, object-joins-by-the-rule, grown-is-least}
 use Rattle.scheme.proofs.Theorems.{grown-is-the-same-in-every-order}
 use Rattle.scheme.proofs.Theorems.{computed-is-the-list, removing-removes, adding-adds, both-is-a-fault}

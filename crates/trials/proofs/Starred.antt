@@ -41,7 +41,7 @@ use Rattle.query.specs.Reading.{isEnd, walkQuery, containing, isNil, unconnecte
 use Rattle.values.specs.Values.{signed, valueOf, lessCell, matches}
 use Rattle.values.specs.Operators.{compares, holds}
 use Rattle.relation.specs.Tables.{projected, project}
-use Rattle.relation.specs.Joins.{together, shown, lowestFor, lowestStanding}
+use Rattle.relation.specs.Joins.{together, shownRows}
 use Rattle.relation.specs.Computed.{allPass, rowsMatch, matchesAll, eachPassing, goingOn, joinRows, part}
 use Rattle.book.specs.TablesOf as Tables
 use Rattle.book.specs.TablesOf.{tablesOf}
@@ -84,7 +84,7 @@ pub record Trial : Type 0 where
   pub gives : List ℕ
   pub says : List ℕ
 
--- "Whole output:" of the paper, its bytes
+-- "Whole output:" of the paper, its bytes. Request 2: query 3 "then has `rows 4`, with 13 as its last row"
 unfoldable pub output : List ℕ
 output =
     81 ∷ 32 ∷ 49 ∷ 32 ∷ 114 ∷ 111 ∷ 119 ∷ 115 ∷ 32 ∷ 50 ∷ 10  -- Q 1 rows 2
@@ -92,10 +92,11 @@ output =
     ∷ 53 ∷ 48 ∷ 50 ∷ 32 ∷ 55 ∷ 10  -- 502 7
     ∷ 81 ∷ 32 ∷ 50 ∷ 32 ∷ 114 ∷ 111 ∷ 119 ∷ 115 ∷ 32 ∷ 49 ∷ 10  -- Q 2 rows 1
     ∷ 53 ∷ 48 ∷ 49 ∷ 32 ∷ 55 ∷ 10  -- 501 7
-    ∷ 81 ∷ 32 ∷ 51 ∷ 32 ∷ 114 ∷ 111 ∷ 119 ∷ 115 ∷ 32 ∷ 51 ∷ 10  -- Q 3 rows 3
+    ∷ 81 ∷ 32 ∷ 51 ∷ 32 ∷ 114 ∷ 111 ∷ 119 ∷ 115 ∷ 32 ∷ 52 ∷ 10  -- Q 3 rows 4
     ∷ 49 ∷ 48 ∷ 10  -- 10
     ∷ 49 ∷ 49 ∷ 10  -- 11
     ∷ 49 ∷ 50 ∷ 10  -- 12
+    ∷ 49 ∷ 51 ∷ 10  -- 13
     ∷ []
 
 unfoldable pub starred : List Trial
@@ -197,7 +198,7 @@ unfolding datedRuns asked club dated refused keepsRules entryKeeps everyBelow mi
     behind bookRefused queryRefused cellText integerText decimal decimalWithin number spaceNumber rowsOf answerRows
     itemKinds choices inFront rowsFor cellsOf allTrue isTrue rightKind rightCell itemCells Answers.rowsOf connection
     parts insertRows insertRow lessRow tablesOf Tables.rowsOf Tables.rowOf Tables.cellsOf part joinRows goingOn
-    eachPassing matchesAll rowsMatch allPass lowestStanding lowestFor shown together project projected holds compares
+    eachPassing matchesAll rowsMatch allPass shownRows together project projected holds compares
     matches lessCell valueOf signed refusal Query.read atEnd wholeNumber someUnconnected unconnected isNil containing
     walkQuery isEnd Queries.faultOf Queries.checks ofQuery askedOf filled attributesNamed naming namesOf nameOf
     comparisonsOf comparisonOf itemsOf itemOf allows builtIn starred banking sizes survey ring read afterLast
