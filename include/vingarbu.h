@@ -42,12 +42,17 @@ extern "C" {
 #define VINGARBU_SERIAL 2u             /* the serial given plus one; with a refusal as it was given */
 #define VINGARBU_READ 3u               /* the bytes of the query that were read, its kind 10 included; 0 with a refusal */
 
+/* The cell that is missing: of lengths, and of names, angles and dates. A length of VINGARBU_NO_VALUE is -1. */
+#define VINGARBU_NO_LENGTH 0x80000000u
+#define VINGARBU_NO_VALUE 0xffffffffu
+
 /* Answers the query at the front of `query` over the book; `serial` is that of the last answer.
  *   results  at least 4 cells, else VINGARBU_SHORT; the first 4 are set as above, the others stay.
  *   space    a full answer sets the first rows times items cells, row after row, ascending by the first item, then the
  *            next; cells past them stay. Refusal 13 (distinct rows times items are more than the space) sets all of it to
  *            zero. Any other refusal leaves it as it was.
- * A length is two's complement in 32 bits. The number of items is what vingarbu_kinds gives. */
+ * A length is two's complement in 32 bits. A missing cell stands as in the book, VINGARBU_NO_LENGTH of a length and
+ * VINGARBU_NO_VALUE of any other kind, and comes before all values. The number of items is what vingarbu_kinds gives. */
 uint32_t vingarbu_answer(const uint8_t *book, size_t book_len, const uint8_t *query, size_t query_len, uint32_t serial,
                          uint32_t *space, size_t space_len, uint64_t *results, size_t results_len);
 
@@ -58,7 +63,7 @@ uint32_t vingarbu_answer(const uint8_t *book, size_t book_len, const uint8_t *qu
 uint32_t vingarbu_kinds(const uint8_t *book, size_t book_len, const uint8_t *query, size_t query_len, uint8_t *kinds,
                         size_t kinds_len, uint64_t *results, size_t results_len);
 
-/* Prints an answer as the unit does: `Q`, the serial, `rows`, the count, then a line for each row.
+/* Prints an answer as the unit does: `Q`, the serial, `rows`, the count, then a line for each row; a missing cell is `-`.
  *   serial, rows   those that vingarbu_answer gave.
  *   kinds          the value kinds of the items, as many as there are items.
  *   cells          rows times items cells or more.

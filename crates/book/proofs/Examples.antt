@@ -7,7 +7,7 @@ use mathlib.Core.List.{List, [], _∷_, _++_, map, flatMap}
 use Prim.Native.Nat.{ℕ}
 use lib.ListN.{length, take}
 use Rattle.sets.specs.Sets.{bit, has, within, _∩_, _∪_, _∖_, single, isEmpty, rank, members}
-use Rattle.values.specs.Values.{inRange}
+use Rattle.values.specs.Values.{missing, inRange}
 use Rattle.values.specs.Table.{builtIn, mirrored, entryKeeps, everyBelow, keepsRules}
 use Rattle.reduction.specs.Kept.{union, around, someHolds, removable, stays, staying, settle, left, acyclic, goesFor}
 use Rattle.reduction.specs.Kept.{goes, keeps, keptOf}
@@ -116,6 +116,11 @@ trials =
     ∷ record { gives = book (angles ++ Row 0 35999 0 0 0 0 0 ∷ []); says = 0 ∷ 1 ∷ 1 ∷ [] }
     ∷ record { gives = book (angles ++ Row 0 36000 0 0 0 0 0 ∷ []); says = 5 ∷ 0 ∷ [] }  -- "an angle over 35,999"
     ∷ record { gives = book (angles ++ Row 0 0 0 0 0 0 1 ∷ []); says = 5 ∷ 0 ∷ [] }  -- "a non-zero unneeded cell"
+    -- request 5: 4,294,967,295 "in the other kinds (angles too), now means missing and is in range"; one less is not,
+    -- nor is it a cell that no attribute needs
+    ∷ record { gives = book (angles ++ Row 0 4294967295 0 0 0 0 0 ∷ []); says = 0 ∷ 1 ∷ 1 ∷ [] }
+    ∷ record { gives = book (angles ++ Row 0 4294967294 0 0 0 0 0 ∷ []); says = 5 ∷ 0 ∷ [] }
+    ∷ record { gives = book (angles ++ Row 0 0 4294967295 0 0 0 0 ∷ []); says = 5 ∷ 0 ∷ [] }
     ∷ record { gives = book (angles ++ asBuiltIn ∷ []); says = 0 ∷ 0 ∷ 1 ∷ [] }  -- a table that keeps the rules
     ∷ record { gives = book (ofClub ∷ angles); says = 0 ∷ 0 ∷ 1 ∷ [] }
     -- less between names and dates, and greater between dates and names
@@ -142,7 +147,7 @@ unfolding trials survey ring angles eight asBuiltIn ofClub result read afterLast
     someCyclic counted bothKinds maximalObjects adding removing isOne computed grown rounds holding joins attributesOf
     familyOf closure passes pass cellOf readAt readFront recordOf bodies bytesOfAll bytesOf kindOf bodyLength isKind
     whose kinds field value bytes keptOf keeps goes goesFor acyclic left settle staying stays removable someHolds around
-    union inRange members rank isEmpty single _∖_ _∪_ _∩_ within has bit
+    union missing inRange members rank isEmpty single _∖_ _∪_ _∩_ within has bit
 trials-hold = refl
 
 -- ---- what books declare: value kinds, the sets of objects, both sides of the dependencies, kind 5 and kind 6 sets,
@@ -210,5 +215,5 @@ unfolding layouts declares tables flatMap tablesOf rowsOf rowOf cellsOf survey m
     computedOf pairs someCyclic counted bothKinds maximalObjects adding removing isOne computed grown rounds holding
     joins attributesOf familyOf closure passes pass cellOf readAt readFront recordOf bodies bytesOfAll bytesOf kindOf
     bodyLength isKind whose kinds field value bytes keptOf keeps goes goesFor acyclic left settle staying stays
-    removable someHolds around union inRange members rank isEmpty single _∖_ _∪_ _∩_ within has bit
+    removable someHolds around union missing inRange members rank isEmpty single _∖_ _∪_ _∩_ within has bit
 layouts-hold = refl

@@ -7,7 +7,7 @@ use mathlib.Core.List.{List, [], _∷_, _++_, map}
 use Prim.Native.Nat.{ℕ}
 use lib.ListN.{length, drop, replicate}
 use Rattle.sets.specs.Sets.{bit, has, within, _∩_, _∪_, _∖_, single, isEmpty, rank, members}
-use Rattle.values.specs.Values.{inRange, signed, valueOf, lessCell, matches}
+use Rattle.values.specs.Values.{missing, inRange, signed, valueOf, lessCell, matches}
 use Rattle.values.specs.Operators.{compares, holds}
 use Rattle.values.specs.Table.{builtIn, allows}
 use Rattle.records.specs.Fields.{bytes, value, field}
@@ -161,7 +161,7 @@ unfolding outcomes outcome queries twoObjects lengths withEmpty survey ring spac
     together project projected cellOf kept keptOf keeps goes goesFor acyclic left settle staying stays
     removable someHolds around union walk walkFrom shortNumber firstOf readAt readFront recordOf bodies bytesOfAll
     bytesOf kindOf bodyLength isKind whose kinds field value bytes allows builtIn holds compares matches lessCell
-    valueOf signed inRange members rank isEmpty single _∖_ _∪_ _∩_ within has bit
+    valueOf signed missing inRange members rank isEmpty single _∖_ _∪_ _∩_ within has bit
 outcomes-hold = refl
 
 unfoldable pub rowTrials : List Trial
@@ -196,18 +196,17 @@ rowTrials =
     ∷ []
 
 pub rows-hold : map (λ t. t .gives) rowTrials ≡ map (λ t. t .says) rowTrials
-unfolding rowTrials rows twoObjects lengths withEmpty survey ring spaceAfter answerOf refused number spaceNumber
-    rowsOf answerRows itemKinds choices inFront rowsFor cellsOf allTrue isTrue rightKind rightCell itemCells
-    Answers.rowsOf connection parts withRows Sorted.cellsOf insertRows insertRow lessRow Query.read atEnd wholeNumber
-    someUnconnected unconnected isNil containing walkQuery isEnd Queries.faultOf Queries.checks ofQuery askedOf filled
-    attributesNamed naming namesOf nameOf comparisonsOf comparisonOf itemsOf itemOf tablesOf Tables.rowsOf
-    Tables.rowOf Tables.cellsOf read afterLast lastFault lastNumber records withRow isRow declare withOnly withRemoved
-    withDeclared withDependency withObject withAttribute nothingDeclared faultOf checks maximalChecks rowChecks
-    wrongCells someOutside someNonZero ofBook cyclicOf bothOf maximalOf computedOf pairs someCyclic counted bothKinds
-    maximalObjects adding removing isOne computed grown rounds holding joins attributesOf familyOf closure passes pass
-    part joinRows goingOn eachPassing matchesAll rowsMatch allPass shownRows together project
-    projected cellOf kept keptOf keeps goes goesFor acyclic left settle staying stays removable someHolds around union
-    walk walkFrom shortNumber firstOf readAt readFront recordOf bodies bytesOfAll bytesOf kindOf bodyLength isKind
-    whose kinds field value bytes allows builtIn holds compares matches lessCell valueOf signed inRange members rank
-    isEmpty single _∖_ _∪_ _∩_ within has bit
+unfolding rowTrials rows twoObjects lengths withEmpty survey ring spaceAfter answerOf refused number spaceNumber rowsOf
+    answerRows itemKinds choices inFront rowsFor cellsOf allTrue isTrue rightKind rightCell itemCells Answers.rowsOf
+    connection parts withRows Sorted.cellsOf insertRows insertRow lessRow Query.read atEnd wholeNumber someUnconnected
+    unconnected isNil containing walkQuery isEnd Queries.faultOf Queries.checks ofQuery askedOf filled attributesNamed
+    naming namesOf nameOf comparisonsOf comparisonOf itemsOf itemOf tablesOf Tables.rowsOf Tables.rowOf Tables.cellsOf
+    read afterLast lastFault lastNumber records withRow isRow declare withOnly withRemoved withDeclared withDependency
+    withObject withAttribute nothingDeclared faultOf checks maximalChecks rowChecks wrongCells someOutside someNonZero
+    ofBook cyclicOf bothOf maximalOf computedOf pairs someCyclic counted bothKinds maximalObjects adding removing isOne
+    computed grown rounds holding joins attributesOf familyOf closure passes pass part joinRows goingOn eachPassing
+    matchesAll rowsMatch allPass shownRows together project projected cellOf kept keptOf keeps goes goesFor acyclic left
+    settle staying stays removable someHolds around union walk walkFrom shortNumber firstOf readAt readFront recordOf
+    bodies bytesOfAll bytesOf kindOf bodyLength isKind whose kinds field value bytes allows builtIn holds compares
+    matches lessCell valueOf signed missing inRange members rank isEmpty single _∖_ _∪_ _∩_ within has bit
 rows-hold = refl

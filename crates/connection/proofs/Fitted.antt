@@ -8,6 +8,7 @@ use Prim.Native.Nat.{ℕ, _<_}
 use lib.ListN.{getD}
 use Rattle.sets.specs.Sets.{_∈_, _⊆_, members}
 use Rattle.sets.proofs.Bits.{member-lt}
+use Rattle.sets.proofs.Sets.{∩-left}
 use Rattle.reduction.specs.Steps.{Family}
 use Rattle.reduction.specs.Kept.{union, kept}
 use Rattle.reduction.specs.Statements.{OfAttributes}
@@ -15,9 +16,10 @@ use Rattle.reduction.proofs.Left.{union-⊇}
 use Rattle.records.specs.declared.Record.{Record}
 use Rattle.relation.specs.Tables.{Row, cellOf, Table, family, projected, project}
 use Rattle.relation.proofs.Tables.{cell-projected, of-project, project-has}
-use Rattle.relation.proofs.Fitting.{FitsOn, AllFit, join-assigned, assigned-join}
+use Rattle.relation.specs.Joins.{OfTwo, keptSets}
+use Rattle.relation.proofs.Fitting.{FitsOn, AllFit, Stated, join-assigned, assigned-join}
 use Rattle.relation.proofs.KeptSets.{wanted-kept}
-use Rattle.relation.proofs.Unions.{inside-unions}
+use Rattle.relation.proofs.Unions.{family-unions, inside-unions}
 use Rattle.scheme.specs.Growing.{familyOf, attributesOf}
 use Rattle.book.specs.Reading.{Outcome}
 use Rattle.book.specs.TablesOf.{tablesOf}
@@ -26,9 +28,11 @@ use Rattle.query.specs.Asking.{attributesNamed}
 use Rattle.query.specs.Accepting.{NamedIn}
 use Rattle.connection.specs.Connection.{InPart, InConnection}
 use Rattle.connection.specs.Answers.{Cells, cellsOf, InAnswer, shownTables}
+use Rattle.plan.specs.Planned.{leftOf}
 use Rattle.connection.specs.Fitting.{tableOf, RowFits, FitsObject, FitsVariable, FitsQuery}
 use Rattle.connection.specs.Statements.{NamesInRange}
 use Rattle.connection.proofs.Shown.{object-in-family, row-of-object, of-shown-row, shownOn, shown-has, of-shown}
+use Rattle.connection.proofs.Shown.{kept-of-two, of-two-keep}
 use Rattle.connection.proofs.Named.{AgreeOnNames, items-agree, true-agrees, shown-agree, forEach, for-each}
 
 module _ (b : List ℕ) (o : Outcome) (bounded : (M : ℕ) → OfAttributes (familyOf (o .scheme .sets) M)) where
@@ -73,12 +77,23 @@ module _ (b : List ℕ) (o : Outcome) (bounded : (M : ℕ) → OfAttributes (fam
         subst (FitsOn B ρ) (sym e) (row-fits-on (f .each c s))
 
     shown-fits-object : {X : ℕ} → AllFit (union (family (shownTables b o M X))) ρ (shownTables b o M X)
-        → FitsObject b o M X ρ
-    shown-fits-object {X} f = record {
+        → Stated (o .scheme .kinds) (family (shownTables b o M X)) ρ → FitsObject b o M X ρ
+    shown-fits-object {X} f g = record {
       each = λ c s.
           let m = shown-has b o M X s in
           fits-on-row (union-⊇ (Memᴰ·map (λ (T : Table). T .set) m)) (f _ m);
+      stated = λ a c d s t n _ i j.
+          g a (subst (λ (F : Family). OfTwo F a) (sym (family-unions (tablesOf b o M) (keptSets (tablesOf b o M) X)))
+          (kept-of-two b o M X s t n i j));
     }
+
+    object-stated : {X : ℕ} → FitsObject b o M X ρ → Stated (o .scheme .kinds) (family (shownTables b o M X)) ρ
+    object-stated {X} f a w =
+        let p = of-two-keep b o M X
+        (subst (λ (F : Family). OfTwo F a) (family-unions (tablesOf b o M) (keptSets (tablesOf b o M) X)) w) in
+        let low = attribute-lt (p .oneKeeps .below) (p .oneKeeps .there)
+        (∩-left (getD (o .scheme .sets) (p .one) 0) (leftOf (o .scheme .sets) M X) (p .inOne)) in
+        f .stated a (p .one) (p .other) (p .oneKeeps) (p .otherKeeps) (p .apart) low (p .inOne) (p .inOther)
 
   -- ---- parts
 
@@ -102,11 +117,17 @@ module _ (b : List ℕ) (o : Outcome) (bounded : (M : ℕ) → OfAttributes (fam
     pub part-fits : InPart b o M X row → ShowsFitting M X row
     part-fits p =
         let s = join-assigned (wanted-shown M X i) (p .joined) in
-        record { cells = s .assigns; fits = shown-fits-object (s .allFit); shows = s .shows }
+        record { cells = s .assigns; fits = shown-fits-object (s .allFit) (s .stated); shows = s .shows }
 
     pub fits-part : {ρ : ℕ → ℕ} → FitsObject b o M X ρ → row ≡ map ρ (members 32 X) → InPart b o M X row
     fits-part {ρ} f e = record {
-      joined = assigned-join (wanted-shown M X i) (record { assigns = ρ; allFit = object-fits-shown f; shows = e });
+      joined =
+          assigned-join (wanted-shown M X i) (record {
+            assigns = ρ;
+            allFit = object-fits-shown f;
+            stated = object-stated f;
+            shows = e;
+          });
     }
 
   -- ---- the connection

@@ -11,7 +11,8 @@ use lib.Dec.{eqb, ltb}
 use lib.ListN.{getD}
 use Rattle.sets.specs.Sets.{_∈_}
 use Rattle.sets.proofs.Tests.{yes-and}
-use Rattle.values.specs.Values.{angle, inRange}
+use Rattle.values.specs.Values.{inRange}
+use Rattle.values.proofs.Values.{inRange-lt}
 use Rattle.reduction.specs.Statements.{OfAttributes}
 use Rattle.reduction.proofs.Left.{in-union}
 use Rattle.relation.specs.Tables.{Row, cellOf, Table, family}
@@ -29,14 +30,6 @@ use Rattle.connection.proofs.Fitted.{wanted-shown, connection-cells}
 
 -- ---- cells of the book
 
-in-range-lt : (kind cell : ℕ) → inRange kind cell ≡ true → cell < 2 ^ 32
-unfolding inRange
-in-range-lt kind cell e = by (eqb kind angle) e
-  where
-    by : (t : Bool) → cond t (ltb cell 36000) (ltb kind 4 && ltb cell (2 ^ 32)) ≡ true → cell < 2 ^ 32
-    by true e = omega (arith, ltb-true cell 36000 e)
-    by false e = ltb-true cell (2 ^ 32) (yes-and (ltb kind 4) (ltb cell (2 ^ 32)) e .1)
-
 module _ (b : List ℕ) where
   -- a cell is in the range of its attribute's value kind
   abbrev Ranged : ℕ → ℕ → Type 0
@@ -50,7 +43,7 @@ module _ (b : List ℕ) where
   pub cell-lt : {M c a : ℕ} {row : Row} → c < 32 → c ∈ M → List·Memᴰ row (rowsOf b (read b .rows) c)
       → a ∈ getD (read b .scheme .sets) c 0 → cellOf (getD (read b .scheme .sets) c 0) row a < 2 ^ 32
   cell-lt {M} {c} {a} {row} h i r j =
-      in-range-lt (getD (read b .scheme .kinds) a 0) (cellOf (getD (read b .scheme .sets) c 0) row a)
+      inRange-lt (getD (read b .scheme .kinds) a 0) (cellOf (getD (read b .scheme .sets) c 0) row a)
       (cell-ranged {M = M} h i r j)
 
   -- ---- cells that fit
@@ -84,7 +77,7 @@ module _ (b : List ℕ) where
     fitting-ranged f h i = held-ranged (f .fits) h (fitting-held f i)
 
     pub fitting-lt : {X a : ℕ} {ρ : ℕ → ℕ} → FitsVariable b (read b) X ρ → a < 32 → a ∈ X → ρ a < 2 ^ 32
-    fitting-lt {a = a} {ρ = ρ} f h i = in-range-lt (getD (read b .scheme .kinds) a 0) (ρ a) (fitting-ranged f h i)
+    fitting-lt {a = a} {ρ = ρ} f h i = inRange-lt (getD (read b .scheme .kinds) a 0) (ρ a) (fitting-ranged f h i)
 
     -- ---- rows of the connection
 
@@ -98,4 +91,4 @@ module _ (b : List ℕ) where
     pub connection-cell-lt : {X a : ℕ} {row : Row} → InConnection b (read b) X row → a < 32 → a ∈ X
         → cellOf X row a < 2 ^ 32
     connection-cell-lt {X} {a} {row} c h i =
-        in-range-lt (getD (read b .scheme .kinds) a 0) (cellOf X row a) (connection-cell-ranged c h i)
+        inRange-lt (getD (read b .scheme .kinds) a 0) (cellOf X row a) (connection-cell-ranged c h i)

@@ -1,34 +1,37 @@
 -- The objects that show a set: the tables shown for M and X are those of the kept sets, and their rows are those that
 -- the objects which contain a kept set have on it.
 -- In order: places of objects, kept sets and their objects, an object contains at most one, the tables of the objects,
--- the rows that objects show on a set, the kept sets of the tables, the tables shown.
+-- the rows that objects show on a set, the kept sets of the tables, the tables shown, attributes of two kept sets.
 -- Assumes nothing.
 use mathlib.Core.Path.{_≡_, refl, sym, ap, _∙_, subst, subst₂}
 use mathlib.Core.Logic.{⊎-elim}
 use mathlib.Core.List.{List, [], _∷_, map, List·Memᴰ, Memᴰ·cast, Memᴰ·map, Memᴰ·of-map}
 use Prim.Native.Nat.{ℕ, _≤_, _<_}
+use native.Mathlib.Nat.{lt-trans}
 use native.Mathlib.Omega.{arith}
 use lib.ListN.{length, getD, length-map}
 use Rattle.sets.specs.Sets.{_∈_, _⊆_, _∩_, rank, members}
 use Rattle.sets.proofs.Numbers.{lt-or-le}
 use Rattle.sets.proofs.Ranks.{rank-lt}
-use Rattle.sets.proofs.Sets.{ext, ∩-⊆-right, ⊆-∩}
+use Rattle.sets.proofs.Sets.{ext, ∩-⊆-left, ∩-⊆-right, ⊆-∩}
 use Rattle.sets.proofs.Members.{members-only, members-has, length-members, getD-members, members-ascending}
 use Rattle.reduction.specs.Steps.{Family, at}
 use Rattle.reduction.specs.Kept.{cutTo, left, keeps, kept}
 use Rattle.reduction.proofs.Places.{mem-at, place-of}
 use Rattle.reduction.proofs.Left.{of-cut, cut-in}
-use Rattle.reduction.proofs.Kept.{yes-keeps, in-keptOf, keptOf-in}
+use Rattle.reduction.proofs.Kept.{yes-keeps, in-keptOf, keptOf-in, kept-none-twice}
 use Rattle.relation.specs.Tables.{Row, Table, tableAt, family, project}
-use Rattle.relation.specs.Joins.{keptSets, shownRows, unionTable}
+use Rattle.relation.specs.Joins.{OfTwo, keptSets, shownRows, unionTable}
 use Rattle.relation.proofs.Tables.{getD-map-at}
 use Rattle.relation.proofs.Standing.{table-mem}
 use Rattle.relation.proofs.Unions.{shown-at, at-shown}
+use Rattle.relation.proofs.Sharing.{of-two-at}
 use Rattle.scheme.specs.Growing.{familyOf}
 use Rattle.book.specs.Reading.{Outcome}
 use Rattle.book.specs.TablesOf.{tablesOf}
 use Rattle.book.proofs.TablesOf.{tables-family}
 use Rattle.plan.specs.Planned.{leftOf, Keeps, keptBy, Shows}
+use Rattle.plan.proofs.Objects.{kept-apart}
 use Rattle.connection.specs.Answers.{shownTables}
 use Rattle.connection.specs.Fitting.{tableOf}
 
@@ -204,3 +207,48 @@ module _ (b : List ℕ) (o : Outcome) (M X : ℕ) where
       let p = Memᴰ·of-map (shownOn b o M) (kept X (family (tablesOf b o M))) m in
       let (c, s, e) = kept-of-tables (p .1) in
       (c, s, sym (p .2) ∙ ap (shownOn b o M) e)
+
+  -- ---- attributes of two kept sets
+
+  abbrev keptOnes : Family
+  keptOnes = keptSets (tablesOf b o M) X
+
+  -- so an attribute of those of two is one of two kept sets, and the other way
+  pub kept-of-two : {a c d : ℕ} → Keeps (o .scheme .sets) M X c → Keeps (o .scheme .sets) M X d → (c ≡ d → ⊥)
+      → a ∈ keptBy (o .scheme .sets) M X c → a ∈ keptBy (o .scheme .sets) M X d → OfTwo keptOnes a
+  kept-of-two {a} {c} {d} s t n i j =
+      let p = place-of (tables-keep (c, s, refl)) in
+      let q = place-of (tables-keep (d, t, refl)) in
+      of-two-at {F = keptOnes} (λ e. n
+      (kept-apart (o .scheme .sets) M X s t (sym (p .holds) ∙ ap (at keptOnes) e ∙ q .holds))) (p .there)
+      (q .there) (subst (λ (K : ℕ). a ∈ K) (sym (p .holds)) i) (subst (λ (K : ℕ). a ∈ K) (sym (q .holds)) j)
+
+  pub record TwoKeep (a : ℕ) : Type 0 where
+    pub one : ℕ
+    pub other : ℕ
+    pub oneKeeps : Keeps (o .scheme .sets) M X one
+    pub otherKeeps : Keeps (o .scheme .sets) M X other
+    pub apart : one ≡ other → ⊥
+    pub inOne : a ∈ keptBy (o .scheme .sets) M X one
+    pub inOther : a ∈ keptBy (o .scheme .sets) M X other
+
+  pub of-two-keep : {a : ℕ} → OfTwo keptOnes a → TwoKeep a
+  unfolding kept
+  of-two-keep {a} w =
+      let h : w .first < length keptOnes = lt-trans (w .before) (w .there) in
+      let (c, s, e) = kept-of-tables (mem-at keptOnes (w .first) h) in
+      let (d, t, f) = kept-of-tables (mem-at keptOnes (w .second) (w .there)) in
+      record {
+        one = c;
+        other = d;
+        oneKeeps = s;
+        otherKeeps = t;
+        apart = λ z. omega (
+          arith,
+          w .before,
+          kept-none-twice (cutTo (left X (family (tablesOf b o M))) (family (tablesOf b o M))) .once (w .first)
+              (w .second) h (w .there) (e ∙ ap (keptBy (o .scheme .sets) M X) z ∙ sym f),
+        );
+        inOne = subst (λ (K : ℕ). a ∈ K) e (w .inFirst);
+        inOther = subst (λ (K : ℕ). a ∈ K) f (w .inSecond);
+      }

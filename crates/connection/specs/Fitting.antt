@@ -3,11 +3,12 @@
 -- In order: cells that fit a maximal object, cells that fit a query.
 -- Assumes nothing.
 use mathlib.Core.Path.{_≡_}
-use mathlib.Core.Bool.{true}
+use mathlib.Core.Bool.{true, false}
 use mathlib.Core.List.{List, List·Memᴰ}
 use Prim.Native.Nat.{ℕ, _<_}
 use lib.ListN.{getD}
 use Rattle.sets.specs.Sets.{_∈_, _⊆_}
+use Rattle.values.specs.Values.{missing}
 use Rattle.records.specs.declared.Record.{Record}
 use Rattle.relation.specs.Tables.{Row, cellOf, Table}
 use Rattle.scheme.specs.Growing.{attributesOf}
@@ -36,6 +37,10 @@ pub record RowFits (b : List ℕ) (o : Outcome) (M K : ℕ) (at : ℕ → ℕ) :
 
 pub record FitsObject (b : List ℕ) (o : Outcome) (M X : ℕ) (at : ℕ → ℕ) : Type 0 where
   pub each : (c : ℕ) → Keeps (o .scheme .sets) M X c → RowFits b o M (keptBy (o .scheme .sets) M X c) at
+  -- "in a join a missing cell matches nothing" (request 5): none stands under an attribute of two kept sets
+  pub stated : (a c d : ℕ) → Keeps (o .scheme .sets) M X c → Keeps (o .scheme .sets) M X d → (c ≡ d → ⊥)
+      → a < 32 → a ∈ keptBy (o .scheme .sets) M X c → a ∈ keptBy (o .scheme .sets) M X d
+      → missing (getD (o .scheme .kinds) a 0) (at a) ≡ false
 
 -- ---- cells that fit a query: for each variable named a maximal object that contains its attributes
 

@@ -15,12 +15,12 @@ use lib.Dec.{eqb, ltb, leb, lit<}
 use lib.IntN.{ℤ, pos, negsuc}
 use lib.ListN.{length, getD, length-append, List·getD-append}
 use lib.Signed.{_<ℤ_, <ℤ-irrefl}
-use Rattle.sets.proofs.Tests.{yes-and, no-and}
+use Rattle.sets.proofs.Tests.{yes-no, yes-and, no-and}
 use Rattle.sets.proofs.Numbers.{lt-or-le}
-use Rattle.values.specs.Values.{valueOf, signed, lessCell}
+use Rattle.values.specs.Values.{missing, valueOf, signed, lessCell}
 use Rattle.values.proofs.Theorems.{ordered-by-value}
 use Rattle.printout.specs.Decimal.{decimalWithin, decimal, Numeral, numberFrom, numberOf, integerText, integerOf}
-use Rattle.printout.specs.Decimal.{cellText}
+use Rattle.printout.specs.Decimal.{valueText, cellText}
 
 -- ---- the digits of a number
 
@@ -187,24 +187,63 @@ integer-byte (negsuc n) b (List·Memᴰ·tail m) = omega (arith, each-digit (suc
 
 -- ---- cells
 
-value-same : (kind : ℕ) {a b : ℕ} → a < 2 ^ 32 → b < 2 ^ 32 → valueOf kind a ≡ valueOf kind b → a ≡ b
-value-same kind {a} {b} p q e = ⊎-elim (λ l. absurd (apart a b e l))
-    (λ m. ⊎-elim (λ (s : a ≡ b). s) (λ l. absurd (apart b a (sym e) l)) m) (ordered-by-value kind .total p q)
-  where
-    apart : (x y : ℕ) → valueOf kind x ≡ valueOf kind y → lessCell kind x y ≡ true → ⊥
-    apart x y f l =
-        <ℤ-irrefl (subst (λ (z : ℤ). valueOf kind x <ℤ z) (sym f) (ordered-by-value kind .agrees x y .0 l))
+module _ (kind : ℕ) {a b : ℕ} (p : a < 2 ^ 32) (q : b < 2 ^ 32) where
+  -- values of cells that are there are different for different cells
+  value-same : missing kind a ≡ false → missing kind b ≡ false → valueOf kind a ≡ valueOf kind b → a ≡ b
+  value-same m n e =
+      ⊎-elim (λ l. absurd (apart a b m e l)) (λ k. ⊎-elim (λ (s : a ≡ b). s) (λ l. absurd (apart b a n (sym e) l)) k)
+      (ordered-by-value kind .total p q)
+    where
+      apart : (x y : ℕ) → missing kind x ≡ false → valueOf kind x ≡ valueOf kind y → lessCell kind x y ≡ true → ⊥
+      apart x y k f l =
+          ⊎-elim (λ u. yes-no u k) (λ u. <ℤ-irrefl (subst (λ (z : ℤ). valueOf kind x <ℤ z) (sym f) u))
+          (ordered-by-value kind .agrees x y .0 l .1)
+
+  -- and a missing cell is one
+  gone-same : missing kind a ≡ true → missing kind b ≡ true → a ≡ b
+  gone-same m n =
+      ⊎-elim (λ l. absurd (yes-no n (ordered-by-value kind .agrees a b .0 l .0)))
+      (λ k. ⊎-elim (λ (s : a ≡ b). s) (λ l. absurd (yes-no m (ordered-by-value kind .agrees b a .0 l .0))) k)
+      (ordered-by-value kind .total p q)
+
+-- no integer is a minus alone
+not-minus : (z : ℤ) → integerText z ≡ 45 ∷ [] → ⊥
+unfolding integerText
+not-minus (pos n) e = first-digit n (ap (λ (l : List ℕ). getD l 0 0) e)
+not-minus (negsuc n) e = omega (arith, some-digits (suc n), ap length e)
+
+pub cell-missing : (kind cell : ℕ) → missing kind cell ≡ true → cellText kind cell ≡ 45 ∷ []
+unfolding cellText
+cell-missing kind cell m = rw m
+
+pub cell-stated : (kind cell : ℕ) → missing kind cell ≡ false → cellText kind cell ≡ valueText kind cell
+unfolding cellText
+cell-stated kind cell m = rw m
 
 pub cell-same : (kind : ℕ) {a b : ℕ} → a < 2 ^ 32 → b < 2 ^ 32 → cellText kind a ≡ cellText kind b → a ≡ b
-unfolding cellText
-cell-same kind {a} {b} p q e =
-    value-same kind p q (sym (integer-read (valueOf kind a)) ∙ ap integerOf e ∙ integer-read (valueOf kind b))
+unfolding valueText
+cell-same kind {a} {b} p q e = by (missing kind a) (missing kind b) refl refl
+  where
+    by : (s t : Bool) → missing kind a ≡ s → missing kind b ≡ t → a ≡ b
+    by true true m n = gone-same kind p q m n
+    by true false m n =
+        absurd (not-minus (valueOf kind b) (sym (cell-stated kind b n) ∙ sym e ∙ cell-missing kind a m))
+    by false true m n = absurd (not-minus (valueOf kind a) (sym (cell-stated kind a m) ∙ e ∙ cell-missing kind b n))
+    by false false m n =
+        value-same kind p q m n
+        (sym (integer-read (valueOf kind a)) ∙ ap integerOf (sym (cell-stated kind a m) ∙ e ∙ cell-stated kind b n)
+        ∙ integer-read (valueOf kind b))
 
 pub cell-byte : (kind cell b : ℕ) → List·Memᴰ b (cellText kind cell) → 32 < b
-unfolding cellText
-cell-byte kind cell b m = integer-byte (valueOf kind cell) b m
+unfolding valueText
+cell-byte kind cell b i = by (missing kind cell) refl
+  where
+    by : (t : Bool) → missing kind cell ≡ t → 32 < b
+    by true m =
+        omega (arith, List·Memᴰ·eq-of-singleton (subst (List·Memᴰ b) (cell-missing kind cell m) i))
+    by false m = integer-byte (valueOf kind cell) b (subst (List·Memᴰ b) (cell-stated kind cell m) i)
 
--- whether the text of a cell begins with a minus, as the code tests it
+-- whether the text of a value begins with a minus, as the code tests it
 abbrev pub minus : ℕ → ℕ → Bool
 minus kind cell = eqb kind 1 && leb (2 ^ 31) cell
 
@@ -216,16 +255,16 @@ minus-other kind cell f = rw (Tests.ne-eqb kind 1 f)
 
 -- the cell as the code has it, the number w
 module _ (kind cell : ℕ) {t : Bool} (e : t ≡ minus kind cell) {w : ℕ} (s : (w ≡ cell) × (w < 2 ^ 32)) where
-  pub cell-minus : t ≡ true → cellText kind cell ≡ 45 ∷ decimal (2 ^ 32 - w)
-  unfolding cellText valueOf signed integerText
-  cell-minus y =
+  pub value-minus : t ≡ true → valueText kind cell ≡ 45 ∷ decimal (2 ^ 32 - w)
+  unfolding valueText valueOf signed integerText
+  value-minus y =
       let (k, l) = yes-and (eqb kind 1) (leb (2 ^ 31) cell) (sym e ∙ y) in
       rw (k, Tests.le-ltb cell (2 ^ 31) (Tests.leb-true (2 ^ 31) cell l), Tests.lt-ltb cell (2 ^ 32) (omega arith))
       (ap (λ (n : ℕ). 45 ∷ decimal n) (omega arith))
 
-  pub cell-no-minus : t ≡ false → cellText kind cell ≡ decimal w
-  unfolding cellText valueOf signed integerText
-  cell-no-minus n =
+  pub value-no-minus : t ≡ false → valueText kind cell ≡ decimal w
+  unfolding valueText valueOf signed integerText
+  value-no-minus n =
       ⊎-elim (λ (k : eqb kind 1 ≡ false). rw k refl)
       (λ (l : leb (2 ^ 31) cell ≡ false). by (eqb kind 1) (Tests.leb-false (2 ^ 31) cell l))
       (no-and (eqb kind 1) (leb (2 ^ 31) cell) (sym e ∙ n))
@@ -235,23 +274,39 @@ module _ (kind cell : ℕ) {t : Bool} (e : t ≡ minus kind cell) {w : ℕ} (s :
       by true h = rw (Tests.lt-ltb cell (2 ^ 31) h)
       by false h = refl
 
-pub cell-short : (kind cell : ℕ) → cell < 2 ^ 32 → length (cellText kind cell) ≤ 11
-cell-short kind cell h = by (minus kind cell) refl
+pub value-short : (kind cell : ℕ) → cell < 2 ^ 32 → length (valueText kind cell) ≤ 11
+value-short kind cell h = by (minus kind cell) refl
   where
-    by : (t : Bool) → t ≡ minus kind cell → length (cellText kind cell) ≤ 11
-    by true e = rw (cell-minus kind cell e (refl, h) refl)
+    by : (t : Bool) → t ≡ minus kind cell → length (valueText kind cell) ≤ 11
+    by true e = rw (value-minus kind cell e (refl, h) refl)
         (omega (arith, decimal-short 9 (2 ^ 32 - cell) (omega arith)))
-    by false e = rw (cell-no-minus kind cell e (refl, h) refl) (omega (arith, decimal-short 9 cell (omega arith)))
+    by false e = rw (value-no-minus kind cell e (refl, h) refl) (omega (arith, decimal-short 9 cell (omega arith)))
 
 -- the lengths that the code sums up
 module _ (kind cell : ℕ) {t : Bool} (e : t ≡ minus kind cell) {w n : ℕ} (s : (w ≡ cell) × (w < 2 ^ 32)) where
   pub minus-counted : t ≡ true → n ≡ length (decimal (2 ^ 32 - w))
-      → (1 + n ≡ length (cellText kind cell)) × (1 + n ≤ 11)
+      → (1 + n ≡ length (valueText kind cell)) × (1 + n ≤ 11)
   minus-counted y p =
-      let all : 1 + n ≡ length (cellText kind cell) = omega (arith, p, ap length (cell-minus kind cell e s y)) in
-      (all, omega (arith, all, cell-short kind cell (omega arith)))
+      let all : 1 + n ≡ length (valueText kind cell) = omega (arith, p, ap length (value-minus kind cell e s y)) in
+      (all, omega (arith, all, value-short kind cell (omega arith)))
 
-  pub plain-counted : t ≡ false → n ≡ length (decimal w) → (n ≡ length (cellText kind cell)) × (n ≤ 11)
+  pub plain-counted : t ≡ false → n ≡ length (decimal w) → (n ≡ length (valueText kind cell)) × (n ≤ 11)
   plain-counted y p =
-      let all : n ≡ length (cellText kind cell) = omega (arith, p, ap length (cell-no-minus kind cell e s y)) in
-      (all, omega (arith, all, cell-short kind cell (omega arith)))
+      let all : n ≡ length (valueText kind cell) = omega (arith, p, ap length (value-no-minus kind cell e s y)) in
+      (all, omega (arith, all, value-short kind cell (omega arith)))
+
+pub cell-short : (kind cell : ℕ) → cell < 2 ^ 32 → length (cellText kind cell) ≤ 11
+cell-short kind cell h = by (missing kind cell) refl
+  where
+    by : (t : Bool) → missing kind cell ≡ t → length (cellText kind cell) ≤ 11
+    by true m = omega (arith, ap length (cell-missing kind cell m))
+    by false m = omega (arith, ap length (cell-stated kind cell m), value-short kind cell h)
+
+-- a cell's text as the code has it
+module _ (kind cell : ℕ) {t : Bool} (e : t ≡ missing kind cell) where
+  pub missing-counted : t ≡ true → (1 ≡ length (cellText kind cell)) × (1 ≤ 11)
+  missing-counted y = (sym (ap length (cell-missing kind cell (sym e ∙ y))), omega arith)
+
+  pub value-counted : t ≡ false → {n : ℕ} → n ≡ length (valueText kind cell) → n ≤ 11
+      → (n ≡ length (cellText kind cell)) × (n ≤ 11)
+  value-counted y p h = (p ∙ sym (ap length (cell-stated kind cell (sym e ∙ y))), h)

@@ -4,9 +4,9 @@
 use mathlib.Core.Path.{_≡_, refl}
 use mathlib.Core.List.{List, [], _∷_, map}
 use Prim.Native.Nat.{ℕ}
-use Rattle.values.specs.Values.{inRange, signed, valueOf}
+use Rattle.values.specs.Values.{missing, inRange, signed, valueOf}
 use Rattle.sorted.specs.Rows.{rowsIn}
-use Rattle.printout.specs.Decimal.{decimalWithin, decimal, integerText, cellText}
+use Rattle.printout.specs.Decimal.{decimalWithin, decimal, integerText, valueText, cellText}
 use Rattle.printout.specs.Lines.{behind, line, cellTexts, rowLine, rowLines, headLine, answerText}
 use Rattle.printout.specs.Lines.{bookRefused, queryRefused, allKnown, rowFits, rowsFit, fits}
 use Rattle.printout.specs.Printing.{after, afterAnswer}
@@ -50,17 +50,22 @@ trials =
     }
     -- "lengths may have a minus": -900, the lowest length, 0 and the highest
     ∷ record {
-      gives = rowLine (1 ∷ 1 ∷ 1 ∷ 1 ∷ []) (4294966396 ∷ 2147483648 ∷ 0 ∷ 2147483647 ∷ []);
+      gives = rowLine (1 ∷ 1 ∷ 1 ∷ 1 ∷ []) (4294966396 ∷ 2147483649 ∷ 0 ∷ 2147483647 ∷ []);
       says =
-          45 ∷ 57 ∷ 48 ∷ 48 ∷ 32 ∷ 45 ∷ 50 ∷ 49 ∷ 52 ∷ 55 ∷ 52 ∷ 56 ∷ 51 ∷ 54 ∷ 52 ∷ 56 ∷ 32 ∷ 48 ∷ 32 ∷ 50 ∷
+          45 ∷ 57 ∷ 48 ∷ 48 ∷ 32 ∷ 45 ∷ 50 ∷ 49 ∷ 52 ∷ 55 ∷ 52 ∷ 56 ∷ 51 ∷ 54 ∷ 52 ∷ 55 ∷ 32 ∷ 48 ∷ 32 ∷ 50 ∷
           49 ∷ 52 ∷ 55 ∷ 52 ∷ 56 ∷ 51 ∷ 54 ∷ 52 ∷ 55 ∷ 10 ∷ [];
     }
     -- the same cell as a name, a length and a date
     ∷ record {
-      gives = rowLine (0 ∷ 1 ∷ 3 ∷ []) (4294967295 ∷ 4294967295 ∷ 4294967295 ∷ []);
+      gives = rowLine (0 ∷ 1 ∷ 3 ∷ []) (4294967294 ∷ 4294967294 ∷ 4294967294 ∷ []);
       says =
-          52 ∷ 50 ∷ 57 ∷ 52 ∷ 57 ∷ 54 ∷ 55 ∷ 50 ∷ 57 ∷ 53 ∷ 32 ∷ 45 ∷ 49 ∷ 32 ∷ 52 ∷ 50 ∷ 57 ∷ 52 ∷ 57 ∷ 54 ∷
-          55 ∷ 50 ∷ 57 ∷ 53 ∷ 10 ∷ [];
+          52 ∷ 50 ∷ 57 ∷ 52 ∷ 57 ∷ 54 ∷ 55 ∷ 50 ∷ 57 ∷ 52 ∷ 32 ∷ 45 ∷ 50 ∷ 32 ∷ 52 ∷ 50 ∷ 57 ∷ 52 ∷ 57 ∷ 54 ∷
+          55 ∷ 50 ∷ 57 ∷ 52 ∷ 10 ∷ [];
+    }
+    -- request 5: a missing cell of each kind "prints as `-`"; the length -1 is none
+    ∷ record {
+      gives = rowLine (0 ∷ 1 ∷ 1 ∷ 2 ∷ 3 ∷ []) (4294967295 ∷ 2147483648 ∷ 4294967295 ∷ 4294967295 ∷ 4294967295 ∷ []);
+      says = 45 ∷ 32 ∷ 45 ∷ 32 ∷ 45 ∷ 49 ∷ 32 ∷ 45 ∷ 32 ∷ 45 ∷ 10 ∷ [];
     }
     -- an angle
     ∷ record {
@@ -99,6 +104,6 @@ trials =
     ∷ []
 
 pub trials-hold : map (λ t. t .gives) trials ≡ map (λ t. t .says) trials
-unfolding trials decimalWithin decimal integerText cellText behind line cellTexts rowLines headLine answerText
-    bookRefused queryRefused allKnown rowFits rowsFit fits after afterAnswer inRange signed valueOf rowsIn
+unfolding trials decimalWithin decimal integerText valueText cellText behind line cellTexts rowLines headLine answerText
+    bookRefused queryRefused allKnown rowFits rowsFit fits after afterAnswer missing inRange signed valueOf rowsIn
 trials-hold = refl

@@ -15,6 +15,7 @@ use lib.Seq.{take-add, getD-take, getD-drop, length-take-le}
 use Rattle.sets.proofs.Tests.{yes-and}
 use Rattle.sets.proofs.Numbers.{lt-or-le}
 use Rattle.values.specs.Values.{inRange}
+use Rattle.values.proofs.Values.{inRange-lt}
 use Rattle.sorted.specs.Rows.{Row, OfKinds, rowsIn}
 use Rattle.printout.specs.Decimal.{decimal, numberOf, cellText}
 use Rattle.printout.specs.Lines.{behind, line, cellTexts, rowLine, rowLines, headLine, answerText, refused}
@@ -139,19 +140,11 @@ row-same (k ∷ kinds) r q v u e =
 abbrev pub SmallCells : ℕ → List ℕ → Type 0
 SmallCells n cells = (i : ℕ) → i < n → getD cells i 0 < 2 ^ 32
 
-in-range-small : (kind cell : ℕ) → inRange kind cell ≡ true → cell < 2 ^ 32
-unfolding inRange
-in-range-small kind cell e = by (eqb kind 2) e
-  where
-    by : (t : Bool) → cond t (ltb cell 36000) (ltb kind 4 && ltb cell (2 ^ 32)) ≡ true → cell < 2 ^ 32
-    by true y = omega (arith, Tests.ltb-true cell 36000 y)
-    by false y = Tests.ltb-true cell (2 ^ 32) (yes-and (ltb kind 4) (ltb cell (2 ^ 32)) y .1)
-
 pub fit-small : (rows : ℕ) (kinds cells : List ℕ) → FitToPrint rows kinds cells
     → SmallCells (rows * length kinds) cells
 fit-small rows kinds cells v i h =
     subst (λ (n : ℕ). getD cells n 0 < 2 ^ 32) (div-add-mod' i (length kinds))
-    (in-range-small (getD kinds (i % length kinds) 0) _
+    (inRange-lt (getD kinds (i % length kinds) 0) _
     (v .inRanges (i / length kinds) (i % length kinds) (div-lt-iff-lt-mul (v .someItems) .1 h)
     (mod-lt i (v .someItems))))
 

@@ -10,10 +10,11 @@ use native.Mathlib.Numerals.{add-one}
 use native.Mathlib.Omega.{arith}
 use lib.ListN.{length, take, drop, set, length-append, length-drop, take-append-drop, getD, drop-of-length-le}
 use lib.Seq.{take-at, drop-at, length-take-le, drop-drop, set-split, drop-cons}
-use Rattle.printout.specs.Decimal.{decimal, cellText}
+use Rattle.values.specs.Values.{missing}
+use Rattle.printout.specs.Decimal.{decimal, valueText, cellText}
 use Rattle.printout.specs.Printing.{written}
 use Rattle.printout.proofs.Decimal.{decimal-small, decimal-large, decimal-short, minus}
-use Rattle.printout.proofs.Decimal.{cell-minus, cell-no-minus}
+use Rattle.printout.proofs.Decimal.{value-minus, value-no-minus, cell-missing, cell-stated}
 
 -- ---- texts written
 
@@ -206,36 +207,58 @@ module _ {x left n : ℕ} (v : DigitsCounted x left n) where
 -- ---- cells
 
 -- the cell as the code has it, the number w
-module _ (kind cell at : ℕ) (e : List ℕ) (room : at + length (cellText kind cell) ≤ length e)
+module _ (kind cell at : ℕ) (e : List ℕ) (room : at + length (valueText kind cell) ≤ length e)
     {t : Bool} (m : t ≡ minus kind cell) {w : ℕ} (s : (w ≡ cell) × (w < 2 ^ 32)) where
   module _ (y : t ≡ true) {next : ℕ} {mid : List ℕ} (p : next ≡ at + 1) (v : mid ≡ written at (45 ∷ []) e) where
     -- the minus is written, the digits are left
-    minus-written : Writing at (cellText kind cell) e next (decimal (2 ^ 32 - w)) mid
+    minus-written : Writing at (valueText kind cell) e next (decimal (2 ^ 32 - w)) mid
     minus-written =
-        writing-next at (cellText kind cell) e (writing-start at (cellText kind cell) e room) (45 ∷ [])
-        (decimal (2 ^ 32 - w)) (cell-minus kind cell m s y) p v
+        writing-next at (valueText kind cell) e (writing-start at (valueText kind cell) e room) (45 ∷ [])
+        (decimal (2 ^ 32 - w)) (value-minus kind cell m s y) p v
 
     pub digits-room : next + length (decimal (2 ^ 32 - w)) ≤ length mid
-    digits-room = writing-room at (cellText kind cell) e minus-written
+    digits-room = writing-room at (valueText kind cell) e minus-written
 
     pub digits-written : {to : ℕ} {out : List ℕ} → to ≡ next + length (decimal (2 ^ 32 - w))
         → out ≡ written next (decimal (2 ^ 32 - w)) mid
-        → (to ≡ at + length (cellText kind cell)) × (out ≡ written at (cellText kind cell) e)
+        → (to ≡ at + length (valueText kind cell)) × (out ≡ written at (valueText kind cell) e)
     digits-written q u =
-        writing-end at (cellText kind cell) e (writing-next at (cellText kind cell) e minus-written
+        writing-end at (valueText kind cell) e (writing-next at (valueText kind cell) e minus-written
         (decimal (2 ^ 32 - w)) [] (sym (append-nil (decimal (2 ^ 32 - w)))) q u)
 
   module _ (y : t ≡ false) where
     pub plain-room : at + length (decimal w) ≤ length e
-    plain-room = omega (arith, ap length (cell-no-minus kind cell m s y))
+    plain-room = omega (arith, ap length (value-no-minus kind cell m s y))
 
     pub plain-written : {to : ℕ} {out : List ℕ} → to ≡ at + length (decimal w) → out ≡ written at (decimal w) e
-        → (to ≡ at + length (cellText kind cell)) × (out ≡ written at (cellText kind cell) e)
+        → (to ≡ at + length (valueText kind cell)) × (out ≡ written at (valueText kind cell) e)
     plain-written q u =
-        let same = sym (cell-no-minus kind cell m s y) in
+        let same = sym (value-no-minus kind cell m s y) in
         (q ∙ ap (λ (l : List ℕ). at + length l) same, u ∙ ap (λ (l : List ℕ). written at l e) same)
 
 -- there is room for the minus
-pub minus-room : (kind cell at : ℕ) (e : List ℕ) → at + length (cellText kind cell) ≤ length e
+pub minus-room : (kind cell at : ℕ) (e : List ℕ) → at + length (valueText kind cell) ≤ length e
     → {t : Bool} → t ≡ minus kind cell → t ≡ true → cell < 2 ^ 32 → at < length e
-minus-room kind cell at e room m y h = omega (arith, ap length (cell-minus kind cell m (refl, h) y))
+minus-room kind cell at e room m y h = omega (arith, ap length (value-minus kind cell m (refl, h) y))
+
+-- a missing cell, and one that is there
+module _ (kind cell at : ℕ) (e : List ℕ) (room : at + length (cellText kind cell) ≤ length e) {t : Bool}
+    (g : t ≡ missing kind cell) where
+  pub missing-room : t ≡ true → at < length e
+  missing-room y = omega (arith, ap length (cell-missing kind cell (sym g ∙ y)))
+
+  pub missing-written : t ≡ true → {to : ℕ} {out : List ℕ} → to ≡ at + 1 → out ≡ written at (45 ∷ []) e
+      → (to ≡ at + length (cellText kind cell)) × (out ≡ written at (cellText kind cell) e)
+  missing-written y q u =
+      let same = sym (cell-missing kind cell (sym g ∙ y)) in
+      (q ∙ ap (λ (l : List ℕ). at + length l) same, u ∙ ap (λ (l : List ℕ). written at l e) same)
+
+  pub value-room : t ≡ false → at + length (valueText kind cell) ≤ length e
+  value-room y = omega (arith, ap length (cell-stated kind cell (sym g ∙ y)))
+
+  pub value-written : t ≡ false → {to : ℕ} {out : List ℕ} → to ≡ at + length (valueText kind cell)
+      → out ≡ written at (valueText kind cell) e
+      → (to ≡ at + length (cellText kind cell)) × (out ≡ written at (cellText kind cell) e)
+  value-written y q u =
+      let same = sym (cell-stated kind cell (sym g ∙ y)) in
+      (q ∙ ap (λ (l : List ℕ). at + length l) same, u ∙ ap (λ (l : List ℕ). written at l e) same)

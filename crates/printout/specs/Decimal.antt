@@ -8,7 +8,7 @@ use Prim.Native.Nat.{ℕ, zero, suc, _+_, _-_, _*_, _/_, _%_, _≤_}
 use lib.Dec.{eqb, ltb}
 use lib.IntN.{ℤ, pos, negsuc}
 use lib.ListN.{length, getD}
-use Rattle.values.specs.Values.{valueOf}
+use Rattle.values.specs.Values.{missing, valueOf}
 
 -- ---- the digits of a number: the bytes 48 to 57 stand for 0 to 9
 
@@ -53,5 +53,9 @@ integerOf (b ∷ text) = cond (eqb b 45) (negsuc (numberOf text - 1)) (pos (numb
 -- ---- cells
 
 -- "cells in decimal": the value of a cell of a kind
+unfoldable pub valueText : ℕ → ℕ → List ℕ
+valueText kind cell = integerText (valueOf kind cell)
+
+-- a missing cell "prints as `-`" (request 5)
 unfoldable pub cellText : ℕ → ℕ → List ℕ
-cellText kind cell = integerText (valueOf kind cell)
+cellText kind cell = cond (missing kind cell) (45 ∷ []) (valueText kind cell)

@@ -6,7 +6,7 @@ ghost use Prim.Native.Nat.{_≤_, _<_, _+_, _-_, _*_, _^_};
 ghost use lib.Dec.{eqb, leb, ltb};
 ghost use lib.ListN.{length};
 ghost use Rattle.sorted.specs.Rows.{rowsIn};
-ghost use Rattle.printout.specs.Decimal.{decimal, cellText};
+ghost use Rattle.printout.specs.Decimal.{decimal, valueText, cellText};
 ghost use Rattle.printout.specs.Lines.{rowLine, rowLines, headLine, bookRefused, queryRefused};
 ghost use Rattle.printout.specs.Lines.{allKnown, rowFits, rowsFit, fits};
 ghost use Rattle.printout.specs.Printing.{written, printed, after, answerPrinted, afterAnswer};
@@ -101,16 +101,16 @@ fn put_words(out: &mut [u8], at: usize, words: &[u8], x: usize) -> usize
     put_decimal(out, end, x)
 }
 
-// Whether the text of a cell begins with a minus.
+// Whether the text of a value begins with a minus.
 fn has_minus(kind: u8, cell: u32) -> bool
     ensures { λ r. ⌜ r ≡ (eqb kind 1 && leb (2 ^ 31) cell) ⌝ }
 {
     if kind == 1 { 2147483648 <= cell } else { false }
 }
 
-// How many bytes the text of a cell has.
-fn cell_length(kind: u8, cell: u32) -> usize
-    ensures { λ r. ⌜ r ≡ length (cellText kind cell) ⌝ }
+// How many bytes the text of a value has.
+fn value_length(kind: u8, cell: u32) -> usize
+    ensures { λ r. ⌜ r ≡ length (valueText kind cell) ⌝ }
     ensures inside { λ r. ⌜ r ≤ 11 ⌝ }
 {
     if has_minus(kind, cell) {
@@ -119,17 +119,40 @@ fn cell_length(kind: u8, cell: u32) -> usize
     decimal_length(wide(cell))
 }
 
-// Writes a cell by its kind. The place behind it.
-fn put_cell(out: &mut [u8], at: usize, kind: u8, cell: u32) -> usize
-    requires { ⌜ at + length (cellText kind cell) ≤ length (now out) ⌝ }
-    ensures { λ r. ⌜ r ≡ at + length (cellText kind cell) ⌝ }
-    ensures { λ _. ⌜ now (out .exit) ≡ written at (cellText kind cell) (now (out .entry)) ⌝ }
+// How many bytes the text of a cell has.
+fn cell_length(kind: u8, cell: u32) -> usize
+    ensures { λ r. ⌜ r ≡ length (cellText kind cell) ⌝ }
+    ensures inside { λ r. ⌜ r ≤ 11 ⌝ }
+{
+    if values::missing(kind, cell) {
+        return 1;
+    }
+    value_length(kind, cell)
+}
+
+// Writes the value of a cell by its kind. The place behind it.
+fn put_value(out: &mut [u8], at: usize, kind: u8, cell: u32) -> usize
+    requires { ⌜ at + length (valueText kind cell) ≤ length (now out) ⌝ }
+    ensures { λ r. ⌜ r ≡ at + length (valueText kind cell) ⌝ }
+    ensures { λ _. ⌜ now (out .exit) ≡ written at (valueText kind cell) (now (out .entry)) ⌝ }
 {
     if has_minus(kind, cell) {
         let digits = put_byte(out, at, b'-');
         return put_decimal(out, digits, 4294967296 - wide(cell));
     }
     put_decimal(out, at, wide(cell))
+}
+
+// Writes a cell by its kind, a missing one as a minus alone. The place behind it.
+fn put_cell(out: &mut [u8], at: usize, kind: u8, cell: u32) -> usize
+    requires { ⌜ at + length (cellText kind cell) ≤ length (now out) ⌝ }
+    ensures { λ r. ⌜ r ≡ at + length (cellText kind cell) ⌝ }
+    ensures { λ _. ⌜ now (out .exit) ≡ written at (cellText kind cell) (now (out .entry)) ⌝ }
+{
+    if values::missing(kind, cell) {
+        return put_byte(out, at, b'-');
+    }
+    put_value(out, at, kind, cell)
 }
 
 // The byte behind word i of n: a space, or a line feed behind the last.

@@ -19,7 +19,7 @@ use Rattle.records.specs.declared.Record.the-variants.{Attribute, Object, Depen
 use Rattle.records.specs.declared.Record.the-variants.{Comparisons, OnlyDeclared, Item}
 use Rattle.records.specs.declared.Record.the-variants.{CompareTwo, CompareConstant, End}
 use Rattle.records.proofs.Checks.{EachNumber, first-number, Agree, ended, next, first-agrees, first-unique, same-always}
-use Rattle.records.proofs.Checks.{same-not, same-or}
+use Rattle.records.proofs.Checks.{same-true, same-not, same-or}
 use Rattle.records.proofs.Checks.{same-lt, same-le, same-absent}
 use Rattle.scheme.specs.declared.Scheme.{Scheme}
 use Rattle.query.specs.Asking.{itemsOf, comparisonsOf}
@@ -49,7 +49,7 @@ agrees s items comparisons (CompareTwo v a operator v2 a2) =
 agrees s items comparisons (CompareConstant v a operator cell) =
     next (same-le _ _)
     (next (same-or (same-lt _ _) (same-or (same-lt _ _) (same-lt _ _)))
-    (next (same-absent _ _) (next (same-not _) (next (same-not _) ended))))
+    (next (same-absent _ _) (next (same-not _) (next (same-not _) (next (same-true _) ended)))))
 agrees s items comparisons End = ended
 
 -- ---- the first
@@ -86,7 +86,7 @@ numbered s items comparisons (Comparisons names lengths angles dates) = (two, tt
 numbered s items comparisons OnlyDeclared = (two, tt)
 numbered s items comparisons (Item v a) = (four, (five, (seven, tt)))
 numbered s items comparisons (CompareTwo v a operator v2 a2) = (four, (five, (seven, (eleven, tt))))
-numbered s items comparisons (CompareConstant v a operator cell) = (four, (five, (seven, (eleven, (five, tt)))))
+numbered s items comparisons (CompareConstant v a operator cell) = (four, (five, (seven, (eleven, (five, (five, tt))))))
 numbered s items comparisons End = tt
 
 pub fault-number : (s : Scheme) (items comparisons : ℕ) (r : Record) → (faultOf s items comparisons r ≡ 0 → ⊥)

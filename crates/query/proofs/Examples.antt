@@ -7,7 +7,7 @@ use mathlib.Core.List.{List, [], _∷_, _++_, map, flatMap}
 use Prim.Native.Nat.{ℕ, _+_}
 use lib.ListN.{take, replicate}
 use Rattle.sets.specs.Sets.{bit, has, within, _∪_, single, isEmpty, members}
-use Rattle.values.specs.Values.{inRange}
+use Rattle.values.specs.Values.{missing, inRange}
 use Rattle.values.specs.Table.{builtIn, allows}
 use Rattle.reduction.specs.Kept.{union}
 use Rattle.records.specs.Checks.{firstOf}
@@ -203,6 +203,14 @@ trials =
     ∷ refuses (query (Item 0 0 ∷ CompareConstant 0 2 0 36000 ∷ [])) 5
     ∷ refuses (query (Item 0 0 ∷ CompareConstant 0 2 2 36000 ∷ [])) 11
     ∷ answers (query (Item 0 0 ∷ CompareConstant 0 2 1 35999 ∷ CompareConstant 0 0 0 36000 ∷ [])) 20
+    -- request 5: "A constant may not be missing (5, after 11)", in each kind; the length -1 is not missing
+    ∷ refuses (query (Item 0 0 ∷ CompareConstant 0 0 1 4294967295 ∷ [])) 5
+    ∷ refuses (query (Item 0 0 ∷ CompareConstant 0 0 2 4294967295 ∷ [])) 11
+    ∷ refuses (query (Item 0 0 ∷ CompareConstant 0 1 3 2147483648 ∷ [])) 5
+    ∷ refuses (query (Item 0 0 ∷ CompareConstant 0 2 0 4294967295 ∷ [])) 5
+    ∷ refuses (query (Item 0 0 ∷ CompareConstant 0 2 5 4294967295 ∷ [])) 11
+    ∷ refuses (query (Item 1 3 ∷ CompareConstant 1 3 2 4294967295 ∷ [])) 5
+    ∷ answers (query (Item 0 0 ∷ CompareConstant 0 1 3 4294967295 ∷ CompareConstant 0 0 0 2147483648 ∷ [])) 20
     -- "attribute or object not declared 7", before 11
     ∷ refuses (query (Item 0 31 ∷ [])) 7
     ∷ refuses (query (CompareTwo 0 0 5 0 31 ∷ [])) 7
@@ -236,5 +244,5 @@ unfolding trials book ofClub maximals good eightOfTwo eightWithConstant eightIte
     flatMap queryOf read atEnd wholeNumber someUnconnected unconnected isNil containing walkQuery isEnd faultOf checks
     ofQuery askedOf filled attributesNamed naming namesOf nameOf comparisonsOf comparisonOf itemsOf itemOf shortNumber
     walkFrom walk firstOf readAt readFront recordOf bodies bytesOfAll bytesOf bodyLength isKind whose kinds field value
-    bytes attributesOf familyOf union allows builtIn inRange members isEmpty single _∪_ within has bit
+    bytes attributesOf familyOf union allows builtIn missing inRange members isEmpty single _∪_ within has bit
 trials-hold = refl

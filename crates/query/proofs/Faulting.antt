@@ -2,7 +2,7 @@
 -- the code made on the way.
 -- In order: items, comparisons of two, comparisons with a constant, the other kinds.
 -- Assumes nothing.
-use mathlib.Core.Path.{_≡_, refl}
+use mathlib.Core.Path.{_≡_, refl, sym, _∙_}
 use mathlib.Core.Bool.{Bool, true, false, not, _||_}
 use mathlib.Core.List.{List, [], _∷_}
 use Prim.Native.Nat.{ℕ, _≤_, _<_}
@@ -12,7 +12,7 @@ use types.Run.{OneOf, miss}
 use denote.Enum.Declared.{tagOf}
 use Rattle.sets.specs.Sets.{has}
 use Rattle.sets.proofs.Tests.{or-left, or-right, or-no}
-use Rattle.values.specs.Values.{inRange}
+use Rattle.values.specs.Values.{missing, inRange}
 use Rattle.values.specs.Table.{allows}
 use Rattle.records.proofs.Record.{the-type}
 use Rattle.records.proofs.Checks.{first-yes, first-no, first-none, tested-not, tested-absent}
@@ -136,6 +136,7 @@ module _ (s : Scheme) (items comparisons v a operator cell : ℕ) where
       (not (has (s .attributes) a), 7)
       ∷ (not (allows (s .table) operator (kindIn s a) (kindIn s a)), 11)
       ∷ (not (inRange (kindIn s a) cell), 5)
+      ∷ (missing (kindIn s a) cell, 5)
       ∷ []
 
   module _ (room : comparisons < 16) where
@@ -169,7 +170,8 @@ module _ (s : Scheme) (items comparisons v a operator cell : ℕ) where
             constant-inside (first-no _ _ (tested-absent (s .attributes) e q known) (first-yes _ (tested-not f y)))
 
         module _ (fits : not t ≡ false) {u : Bool} (g : u ≡ inRange (kindIn s a) cell) where
-          constant-allowed : {n : ℕ} → n ≡ firstOf ((not (inRange (kindIn s a) cell), 5) ∷ [])
+          constant-allowed : {n : ℕ}
+              → n ≡ firstOf ((not (inRange (kindIn s a) cell), 5) ∷ (missing (kindIn s a) cell, 5) ∷ [])
               → n ≡ faultOf s items comparisons (CompareConstant v a operator cell)
           constant-allowed d =
               constant-inside (first-no _ _ (tested-absent (s .attributes) e q known)
@@ -178,8 +180,13 @@ module _ (s : Scheme) (items comparisons v a operator cell : ℕ) where
           pub constant-outside : not u ≡ true → 5 ≡ faultOf s items comparisons (CompareConstant v a operator cell)
           constant-outside y = constant-allowed (first-yes _ (tested-not g y))
 
-          pub constant-right : not u ≡ false → 0 ≡ faultOf s items comparisons (CompareConstant v a operator cell)
-          constant-right n = constant-allowed (first-no _ _ (tested-not g n) first-none)
+          module _ (inside : not u ≡ false) {gone : Bool} (l : gone ≡ missing (kindIn s a) cell) where
+            pub constant-missing : gone ≡ true → 5 ≡ faultOf s items comparisons (CompareConstant v a operator cell)
+            constant-missing y = constant-allowed (first-no _ _ (tested-not g inside) (first-yes _ (sym l ∙ y)))
+
+            pub constant-right : gone ≡ false → 0 ≡ faultOf s items comparisons (CompareConstant v a operator cell)
+            constant-right n =
+                constant-allowed (first-no _ _ (tested-not g inside) (first-no _ _ (sym l ∙ n) first-none))
 
 -- ---- the other kinds
 

@@ -2,12 +2,12 @@
 -- the first that holds is a theorem (`Statements`).
 -- Assumes nothing.
 use mathlib.Core.Path.{_≡_}
-use mathlib.Core.Bool.{false}
+use mathlib.Core.Bool.{true, false}
 use mathlib.Core.Logic.{_⊎_}
 use mathlib.Core.List.{List, [], _∷_}
 use Prim.Native.Nat.{ℕ, _≤_, _<_}
 use Rattle.sets.specs.Sets.{_∉_}
-use Rattle.values.specs.Values.{inRange}
+use Rattle.values.specs.Values.{missing, inRange}
 use Rattle.values.specs.Table.{allows}
 use Rattle.records.specs.Checks.{Condition, _gives_}
 use Rattle.records.specs.declared.Record.{Record}
@@ -20,7 +20,7 @@ use Rattle.query.specs.Faults.{kindIn}
 -- "kind not allowed 2"; "one more than its bound 4": "items 1 to 8; comparisons 0 to 16 in all"; "field outside its
 -- range .. 5": "variables 0 to 3"; "attribute .. not declared 7"; "an operator of 0 to 5 that the table doesn't allow
 -- there 11 (one over 5 is 5; a constant has its attribute's kind); an angle constant over 35,999 is then 5": of value
--- kinds 0 to 3 only angles have cells out of range
+-- kinds 0 to 3 only angles have cells out of range; request 5: "A constant may not be missing (5, after 11)"
 unfoldable pub conditions : Scheme → ℕ → ℕ → Record → List Condition
 conditions s items comparisons (Attribute id kind) = (Unit {0} gives 2) ∷ []
 conditions s items comparisons (Object number set) = (Unit {0} gives 2) ∷ []
@@ -47,5 +47,6 @@ conditions s items comparisons (CompareConstant v a operator cell) =
     ∷ (a ∉ s .attributes gives 7)
     ∷ (allows (s .table) operator (kindIn s a) (kindIn s a) ≡ false gives 11)
     ∷ (inRange (kindIn s a) cell ≡ false gives 5)
+    ∷ (missing (kindIn s a) cell ≡ true gives 5)
     ∷ []
 conditions s items comparisons End = []

@@ -8,7 +8,7 @@ use Prim.Native.Nat.{ℕ}
 use lib.Dec.{ltb, leb}
 use lib.ListN.{getD}
 use Rattle.sets.specs.Sets.{has}
-use Rattle.values.specs.Values.{inRange}
+use Rattle.values.specs.Values.{missing, inRange}
 use Rattle.values.specs.Table.{allows}
 use Rattle.records.specs.Checks.{firstOf}
 use Rattle.records.specs.declared.Record.{Record}
@@ -23,7 +23,7 @@ kindIn s a = getD (s .kinds) a 0
 
 -- the checks of a record, over a book of scheme s, behind so many items and comparisons: "for each record 2, 3, 4, 5, 7
 -- as above; an operator of 0 to 5 that the table doesn't allow there 11 (one over 5 is 5; a constant has its
--- attribute's kind); an angle constant over 35,999 is then 5"
+-- attribute's kind); an angle constant over 35,999 is then 5"; request 5: "A constant may not be missing (5, after 11)"
 unfoldable pub checks : Scheme → ℕ → ℕ → Record → List (Bool × ℕ)
 checks s items comparisons (Attribute id kind) = (true, 2) ∷ []
 checks s items comparisons (Object number set) = (true, 2) ∷ []
@@ -50,6 +50,7 @@ checks s items comparisons (CompareConstant v a operator cell) =
     ∷ (not (has (s .attributes) a), 7)
     ∷ (not (allows (s .table) operator (kindIn s a) (kindIn s a)), 11)
     ∷ (not (inRange (kindIn s a) cell), 5)
+    ∷ (missing (kindIn s a) cell, 5)
     ∷ []
 checks s items comparisons End = []
 

@@ -149,6 +149,9 @@ fn constant_fault(
     if !values::in_range(kind, cell) {
         return 5;
     }
+    if values::missing(kind, cell) {
+        return 5;
+    }
     0
 }
 

@@ -97,6 +97,9 @@ first-number P (c ∷ cs) n b (inr f) d = first-number P cs n (b .1) (f .1) d
 pub same-always : Same true (Unit {0})
 same-always = record { yes = λ e. tt; no = λ e u. yes-no refl e }
 
+pub same-true : (t : Bool) → Same t (t ≡ true)
+same-true t = record { yes = λ e. e; no = λ e y. yes-no y e }
+
 pub same-not : (t : Bool) → Same (not t) (t ≡ false)
 same-not t = record { yes = not-true t; no = λ e n. yes-no (not-false t e) n }
 

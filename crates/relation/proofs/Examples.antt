@@ -5,17 +5,20 @@
 use mathlib.Core.Path.{_≡_, refl, sym, subst₂}
 use mathlib.Core.List.{List, [], _∷_, map, List·Memᴰ, List·Memᴰ·head, List·Memᴰ·tail, List·Memᴰ·not-nil}
 use mathlib.Core.List.{head-eq-of-cons-eq}
-use Prim.Native.Nat.{ℕ}
+use Prim.Native.Nat.{ℕ, _^_, _<_}
 use native.Mathlib.Omega.{arith}
 use lib.Dec.{lit<}
-use Rattle.sets.specs.Sets.{bit, has, within, _∩_, _∪_, single, isEmpty, rank, members}
+use Rattle.sets.specs.Sets.{_⊆_, bit, has, within, _∩_, _∪_, single, isEmpty, rank, members}
 use Rattle.sets.proofs.Sets.{yes-within}
-use Rattle.values.specs.Values.{matches}
+use Rattle.values.specs.Values.{missing, matches}
 use Rattle.reduction.specs.Kept.{union, around, someHolds, removable, stays, staying, settle, left}
 use Rattle.reduction.specs.Kept.{goesFor, goes, keeps, keptOf, kept}
-use Rattle.relation.specs.Tables.{cellOf, Table, SameRows, family, projected, project}
-use Rattle.relation.specs.Joins.{AgreePairwise, together, StandFor, none, one, shown, keptSets, shownRows}
+use Rattle.reduction.specs.Statements.{OfAttributes}
+use Rattle.relation.specs.Tables.{Row, cellOf, Table, SameRows, family, projected, project}
+use Rattle.relation.specs.Joins.{AgreePairwise, together, InFullJoin, StandFor, none, one, shown, keptSets}
+use Rattle.relation.specs.Joins.{shownRows, InPart}
 use Rattle.relation.specs.Computed.{allPass, rowsMatch, matchesAll, eachPassing, goingOn, joinRows, part}
+use Rattle.relation.proofs.Theorems.{join-computed, part-computed}
 
 -- ---- the tables
 
@@ -48,6 +51,16 @@ noRows S = record { set = S; rows = [] }
 -- stations, and a table of trips that shares nothing with them and has no row
 unfoldable pub apart : List Table
 apart = record { set = 1; rows = (10 ∷ []) ∷ [] } ∷ noRows 4 ∷ []
+
+-- a lead and a trip whose stations nobody noted
+abbrev pub leadOnly : Table
+leadOnly = record { set = 3; rows = (4294967295 ∷ 501 ∷ []) ∷ [] }
+
+abbrev pub tripOnly : Table
+tripOnly = record { set = 5; rows = (4294967295 ∷ 7 ∷ []) ∷ [] }
+
+unfoldable pub gap : List Table
+gap = leadOnly ∷ tripOnly ∷ []
 
 -- ---- kept sets and joins
 
@@ -93,12 +106,19 @@ trials =
     }
     ∷ record { gives = keptJoin paired 1 (0 ∷ []); says = (10 ∷ []) ∷ (10 ∷ []) ∷ (11 ∷ []) ∷ [] }
     ∷ record { gives = keptJoin paired 1 (1 ∷ []); says = (10 ∷ []) ∷ (10 ∷ []) ∷ (11 ∷ []) ∷ [] }
+    -- request 5: "in a join a missing cell matches nothing, itself included"; the lead alone is shown by one object. So
+    -- the full join on LEAD has not all rows of the part, although the tables agree (`gap-agrees`)
+    ∷ record { gives = part kinds gap 6; says = [] }
+    ∷ record { gives = part kinds gap 2; says = (501 ∷ []) ∷ [] }
+    ∷ record { gives = joinRows kinds gap 2; says = [] }
+    -- a missing cell under an attribute of one object
+    ∷ record { gives = part kinds (leadOnly ∷ []) 3; says = (4294967295 ∷ 501 ∷ []) ∷ [] }
     ∷ []
 
 pub trials-hold : map (λ t. t .gives) trials ≡ map (λ t. t .says) trials
-unfolding trials survey paired apart kinds part joinRows goingOn eachPassing matchesAll rowsMatch allPass together shown
-    project projected cellOf shownRows kept keptOf keeps goes goesFor left settle staying stays
-    removable someHolds around union bit has within _∩_ _∪_ single isEmpty rank members matches
+unfolding trials survey paired apart gap kinds missing part joinRows goingOn eachPassing matchesAll rowsMatch allPass
+    together shown project projected cellOf shownRows kept keptOf keeps goes goesFor left settle staying stays removable
+    someHolds around union bit has within _∩_ _∪_ single isEmpty rank members matches
 trials-hold = refl
 
 -- ---- the objects that may stand
@@ -142,6 +162,34 @@ unfolding paired project projected cellOf rank members has bit _∩_
 paired-agree =
     two-agree leads trips (record { firstInSecond = λ row m. m; secondInFirst = λ row m. m })
     (record { firstInSecond = λ row m. m; secondInFirst = λ row m. m })
+
+-- nor do they differ where the station is missing: "Duplicate rows are still judged by their bytes", and so is
+-- agreement
+pub gap-agrees : AgreePairwise gap
+unfolding gap project projected cellOf rank members has bit _∩_
+gap-agrees =
+    two-agree leadOnly tripOnly (record { firstInSecond = λ row m. m; secondInFirst = λ row m. m })
+    (record { firstInSecond = λ row m. m; secondInFirst = λ row m. m })
+
+-- so M's part has a lead that the full join has not, and "equality with it is kept" only without such cells
+pub gap-adds-a-row : ((row : Row) → InPart kinds gap 2 row → InFullJoin kinds gap 2 row) → ⊥
+unfolding gap kinds missing part joinRows goingOn eachPassing matchesAll rowsMatch allPass together project projected
+    cellOf shownRows kept keptOf keeps goes goesFor left settle staying stays removable someHolds around union bit has
+    within _∩_ _∪_ single isEmpty rank members matches
+gap-adds-a-row same =
+    List·Memᴰ·not-nil (join-computed kinds gap 2 bounded inside .findsRow (501 ∷ []) (same (501 ∷ [])
+    (part-computed kinds gap 2 bounded inside .rowFound (501 ∷ []) (List·Memᴰ·head refl))))
+  where
+    inside : 2 ⊆ union (family gap)
+    inside = yes-within 2 7 refl
+
+    bounded : OfAttributes (family gap)
+    bounded = record { bounded = low }
+      where
+        low : (s : ℕ) → List·Memᴰ s (3 ∷ 5 ∷ []) → s < 2 ^ 32
+        low s (List·Memᴰ·head e) = omega (arith, e)
+        low s (List·Memᴰ·tail (List·Memᴰ·head e)) = omega (arith, e)
+        low s (List·Memᴰ·tail (List·Memᴰ·tail m)) = absurd (List·Memᴰ·not-nil m)
 
 -- the survey has a lead at station 12 and no trip there
 pub survey-disagrees : AgreePairwise survey → ⊥

@@ -1,6 +1,7 @@
 -- The laws of `relation` that callers cite. Assumes nothing.
 pub mod Tables
 pub mod Agreement
+pub mod Sharing
 pub mod Fitting
 pub mod KeptSets
 pub mod Backwards

@@ -12,13 +12,14 @@ use native.Mathlib.Nat.{zero-lt-suc}
 use lib.ListN.{length}
 use Rattle.sets.specs.Sets.{_∈_, _⊆_, within}
 use Rattle.sets.proofs.Sets.{yes-within, within-yes}
-use Rattle.reduction.specs.Steps.{Family}
+use Rattle.reduction.specs.Steps.{Family, NoneTwice}
 use Rattle.reduction.specs.Kept.{union}
 use Rattle.reduction.proofs.Left.{union-⊇, in-union}
 use Rattle.relation.specs.Tables.{Row, cellOf, Table, tableAt, family, project}
-use Rattle.relation.specs.Joins.{StandFor, none, one, shown, shownRows, unionTable, unions, InUnionJoin}
+use Rattle.relation.specs.Joins.{OfTwo, StandFor, none, one, shown, shownRows, unionTable, unions, InUnionJoin}
 use Rattle.relation.specs.Joins.{InSomeChoice}
-use Rattle.relation.proofs.Fitting.{FitsOn, AllFit, Assigned, join-assigned, assigned-join}
+use Rattle.relation.proofs.Fitting.{FitsOn, AllFit, Stated, join-assigned, assigned-join}
+use Rattle.relation.proofs.Sharing.{of-two-moved}
 use Rattle.relation.proofs.Standing.{family-shown, stands-shown}
 
 -- ---- rows of a union
@@ -147,6 +148,7 @@ module _ {kinds : List ℕ} (Ts : List Table) (Ks : Family) {X : ℕ} (inside : 
             assigned-join (inside-choice (c .stands) inside) (record {
               assigns = a .assigns;
               allFit = subst (λ (F : Family). AllFit (union F) (a .assigns) (shown Ts Ks (c .choice))) same (c .fits);
+              stated = subst (λ (F : Family). Stated kinds F (a .assigns)) same (a .stated);
               shows = a .shows;
             });
       }
@@ -160,6 +162,7 @@ module _ {kinds : List ℕ} (Ts : List Table) (Ks : Family) {X : ℕ} (inside : 
         allFit =
             subst (λ (F : Family). AllFit (union F) (a .assigns) (unions Ts Ks)) same
             (chosen-fits Ts (c .stands) (a .allFit));
+        stated = subst (λ (F : Family). Stated kinds F (a .assigns)) same (a .stated);
         shows = a .shows;
       })
 
@@ -170,7 +173,8 @@ fits-any : {A : ℕ} (B : ℕ) {ρ : ℕ → ℕ} {U : Table} → U .set ⊆ A �
 fits-any B s f = record { row = f .row; there = f .there; cells = λ a i _. f .cells a i (s .each i) }
 
 module _ {kinds : List ℕ} (Ts : List Table) {X : ℕ} (Js Ks : Family)
-    (some : (K : ℕ) → List·Memᴰ K Ks → List·Memᴰ K Js) (inside : X ⊆ union Ks) (wide : X ⊆ union Js) where
+    (some : (K : ℕ) → List·Memᴰ K Ks → List·Memᴰ K Js) (once : NoneTwice Ks) (inside : X ⊆ union Ks)
+    (wide : X ⊆ union Js) where
   pub same-join : {row : Row} → InUnionJoin kinds Ts Js X row → InUnionJoin kinds Ts Ks X row
   same-join j =
       let a = join-assigned (inside-unions Ts Js wide) j in
@@ -182,6 +186,9 @@ module _ {kinds : List ℕ} (Ts : List Table) {X : ℕ} (Js Ks : Family)
             (fits-any _
             (subst (λ (F : Family). K ⊆ union F) (sym (family-unions Ts Js)) (union-⊇ (some K k)))
             (a .allFit (unionTable Ts K) (Memᴰ·map (unionTable Ts) (some K k))));
+        stated = λ b w.
+            subst (λ (F : Family). Stated kinds F (a .assigns)) (family-unions Ts Js) (a .stated) b
+            (of-two-moved once some (subst (λ (F : Family). OfTwo F b) (family-unions Ts Ks) w));
         shows = a .shows;
       })
 

@@ -12,7 +12,7 @@ use mathlib.Core.List.{List}
 use Prim.Native.Nat.{ℕ}
 use Rattle.reduction.specs.Statements.{KeptByEveryList}
 use Rattle.relation.specs.Tables.{Row, Table, family}
-use Rattle.relation.specs.Joins.{AgreePairwise, InFullJoin, StandFor, keptSets, InKeptJoin}
+use Rattle.relation.specs.Joins.{AgreePairwise, NoneMissing, InFullJoin, StandFor, keptSets, InKeptJoin}
 use Rattle.relation.specs.Statements.{UnionOfChoices}
 
 pub record Demand3 (kinds : List ℕ) (Ts : List Table) (X : ℕ) : Type 0 where
@@ -26,9 +26,11 @@ pub record Demand3 (kinds : List ℕ) (Ts : List Table) (X : ℕ) : Type 0 where
   -- the full join on the wanted columns"
   pub everyRow : (cs : List ℕ) → StandFor Ts (keptSets Ts X) cs → (row : Row) → InFullJoin kinds Ts X row
       → InKeptJoin kinds Ts X cs row
-  -- "where the tables of the maximal object agree pairwise, it has exactly those rows and no other"
-  pub noOther : AgreePairwise Ts → (cs : List ℕ) → StandFor Ts (keptSets Ts X) cs → (row : Row)
+  -- "where the tables of the maximal object agree pairwise, it has exactly those rows and no other"; request 5:
+  -- "equality with it is kept for a maximal object where no missing cell stands under an attribute of two of its
+  -- objects"
+  pub noOther : AgreePairwise Ts → NoneMissing kinds Ts → (cs : List ℕ) → StandFor Ts (keptSets Ts X) cs → (row : Row)
       → InKeptJoin kinds Ts X cs row → InFullJoin kinds Ts X row
   -- "compares it with the full join on X, as sets of rows, for every such choice": there the two are equal
-  pub equal : AgreePairwise Ts → (cs : List ℕ) → StandFor Ts (keptSets Ts X) cs → (row : Row)
+  pub equal : AgreePairwise Ts → NoneMissing kinds Ts → (cs : List ℕ) → StandFor Ts (keptSets Ts X) cs → (row : Row)
       → InFullJoin kinds Ts X row ↔ InKeptJoin kinds Ts X cs row

@@ -11,7 +11,8 @@ use lib.ListN.{length, getD}
 use Rattle.sets.specs.Sets.{_∈_, _∉_, _⊆_, _∩_}
 use Rattle.reduction.specs.Steps.{at, Step, leaves, Complete, NodePermits, CoverPermits}
 use Rattle.relation.specs.Tables.{Row, cellOf, Table, SameRows, tableAt, family, project}
-use Rattle.relation.specs.Joins.{AgreePairwise, Picked, Matching, InJoin, InFullJoin, StandFor, keptSets}
+use Rattle.relation.specs.Joins.{AgreePairwise, NoneMissing, Picked, Matching, InJoin, InFullJoin, StandFor}
+use Rattle.relation.specs.Joins.{keptSets}
 use Rattle.relation.specs.Joins.{InKeptJoin, InUnionJoin, InPart, InSomeChoice}
 use Rattle.relation.specs.Computed.{combinations, joinRows, part}
 
@@ -56,9 +57,10 @@ pub record EveryRow (kinds : List ℕ) (Ts : List Table) (X : ℕ) : Type 0 wher
   pub kept : (cs : List ℕ) → StandFor Ts (keptSets Ts X) cs → (row : Row) → InFullJoin kinds Ts X row
       → InKeptJoin kinds Ts X cs row
 
--- "where the tables of the maximal object agree pairwise, it has exactly those rows and no other"
+-- "where the tables of the maximal object agree pairwise, it has exactly those rows and no other"; request 5: "equality
+-- with it is kept for a maximal object where no missing cell stands under an attribute of two of its objects"
 pub record NoOtherRow (kinds : List ℕ) (Ts : List Table) (X : ℕ) : Type 0 where
-  pub agreed : AgreePairwise Ts → (cs : List ℕ) → StandFor Ts (keptSets Ts X) cs → (row : Row)
+  pub agreed : AgreePairwise Ts → NoneMissing kinds Ts → (cs : List ℕ) → StandFor Ts (keptSets Ts X) cs → (row : Row)
       → InKeptJoin kinds Ts X cs row → InFullJoin kinds Ts X row
 
 -- the combinations found by early tests are exactly the choices of "one row of each table, cells matching under every
@@ -89,7 +91,8 @@ pub record UnionOfChoices (kinds : List ℕ) (Ts : List Table) (X : ℕ) : Type 
       → (InUnionJoin kinds Ts (leaves (family Ts) ms) X row ↔ InPart kinds Ts X row)
       × (InSomeChoice kinds Ts (leaves (family Ts) ms) X row ↔ InPart kinds Ts X row)
 
--- "equality with the full join is still claimed only under pairwise agreement"
+-- "equality with the full join is still claimed only under pairwise agreement", and by request 5 only where no missing
+-- cell stands under an attribute of two of the objects
 pub record PartHolds (kinds : List ℕ) (Ts : List Table) (X : ℕ) : Type 0 where
   pub everyRow : (row : Row) → InFullJoin kinds Ts X row → InPart kinds Ts X row
-  pub equal : AgreePairwise Ts → (row : Row) → InFullJoin kinds Ts X row ↔ InPart kinds Ts X row
+  pub equal : AgreePairwise Ts → NoneMissing kinds Ts → (row : Row) → InFullJoin kinds Ts X row ↔ InPart kinds Ts X row

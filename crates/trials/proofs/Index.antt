@@ -41,6 +41,7 @@ use Rattle.sets.proofs.is_empty.Met.{met as sets-is-empty}
 use Rattle.sets.proofs.count.Met.{met as sets-count}
 use Rattle.sets.proofs.rank.Met.{met as sets-rank}
 use Rattle.sets.proofs.lowest.Met.{met as sets-lowest}
+use Rattle.values.proofs.missing.Met.{met as values-missing}
 use Rattle.values.proofs.in_range.Met.{met as values-in-range}
 use Rattle.values.proofs.key.Met.{met as values-key}
 use Rattle.values.proofs.less.Met.{met as values-less}
@@ -107,8 +108,8 @@ use Rattle.host.proofs.vingarbu_refusal_text.Met.{met as host-vingarbu-refusal-
 -- ---- theorems
 use Rattle.sets.proofs.Theorems.{members-of-sets, equal-sets, containment, rank-and-count, lowest-member}
 use Rattle.sets.proofs.Theorems.{members-listed, plain-containment}
-use Rattle.values.proofs.Theorems.{ordered-by-value, ordered-across, operators-mean, table-allows, rules-are-tested}
-use Rattle.values.proofs.Theorems.{built-in-table-keeps, allowed-means, turned}
+use Rattle.values.proofs.Theorems.{missing-cells, ordered-by-value, ordered-across, matches-mean, operators-mean}
+use Rattle.values.proofs.Theorems.{table-allows, rules-are-tested, built-in-table-keeps, allowed-means, turned}
 use Rattle.values.proofs.Examples.{trials-hold as values-trials-hold}
 use Rattle.records.proofs.Theorems.{fields-inverse, kind-then-body, reads-back, was-written, answers-mean, walk-exactly}
 use Rattle.records.proofs.Examples.{examples-written, examples-read}
@@ -130,7 +131,7 @@ use Rattle.book.proofs.Theorems.{scheme-well-formed}
 use Rattle.book.proofs.Theorems.{maximal-objects-read, tables-of-book, maximal-objects-of-book}
 use Rattle.book.proofs.Examples.{trials-hold as book-trials-hold, layouts-hold}
 use Rattle.relation.proofs.Examples.{trials-hold, each-may-stand, paired-agree, survey-disagrees, empty-tables-agree}
-use Rattle.relation.proofs.Examples.{leads-and-no-trips-disagree, apart-disagrees}
+use Rattle.relation.proofs.Examples.{leads-and-no-trips-disagree, apart-disagrees, gap-agrees, gap-adds-a-row}
 use Rattle.query.proofs.Theorems as Queries
 use Rattle.query.proofs.Theorems.{records-ask, containing-is-the-list, accepted-fits}
 use Rattle.query.proofs.Examples.{trials-hold as query-trials-hold}
@@ -149,7 +150,7 @@ use Rattle.printout.proofs.Theorems.{in-decimal, cells-read, texts-read, fit-te
 use Rattle.printout.proofs.Theorems.{room-enough}
 use Rattle.printout.proofs.Examples.{trials-hold as printout-trials-hold}
 use Rattle.run.proofs.Theorems.{answered-prints, step-inside, opening-inside, run-prints}
-use Rattle.trials.proofs.Starred.{starred-hold, runs-hold, dated-runs-hold}
+use Rattle.trials.proofs.Starred.{starred-hold, runs-hold, dated-runs-hold, gap-runs-hold}
 
 -- ---- the three demands, for the bytes b of any book and q of any query
 

@@ -6,7 +6,7 @@ use mathlib.Core.Path.{_≡_, refl}
 use mathlib.Core.List.{List, [], _∷_, _++_, map}
 use Prim.Native.Nat.{ℕ}
 use Rattle.sets.specs.Sets.{bit, has, within, _∩_, _∪_, _∖_, single, isEmpty, rank, count, members}
-use Rattle.values.specs.Values.{inRange}
+use Rattle.values.specs.Values.{missing, inRange}
 use Rattle.records.specs.Fields.{bytes, value, field}
 use Rattle.records.specs.Records.{kinds, whose, isKind, ofBook, ofQuery, bodyLength, kindOf}
 use Rattle.records.specs.Records.{bytesOf, bytesOfAll}
@@ -15,7 +15,8 @@ use Rattle.records.specs.Checks.{firstOf}
 use Rattle.records.specs.Walking.{shortNumber, walkFrom, walk}
 use Rattle.records.specs.declared.Record.{Record}
 use Rattle.records.specs.declared.Record.the-variants.{Attribute, Object, Dependency, Row, Declared, Removed}
-use Rattle.records.specs.declared.Record.the-variants.{Comparisons, OnlyDeclared, Item, CompareTwo, End}
+use Rattle.records.specs.declared.Record.the-variants.{Comparisons, OnlyDeclared, Item, CompareTwo, CompareConstant}
+use Rattle.records.specs.declared.Record.the-variants.{End}
 use Rattle.reduction.specs.Kept.{union, around, someHolds, removable, stays, staying, settle, left, acyclic}
 use Rattle.reduction.specs.Kept.{goesFor, goes, keeps, keptOf, kept}
 use Rattle.relation.specs.Tables.{cellOf}
@@ -53,7 +54,7 @@ use Rattle.connection.specs.Answers.{itemKinds, answerRows}
 use Rattle.connection.specs.Answers as Answers
 use Rattle.connection.specs.Answering.{rowsOf, spaceNumber, number}
 use Rattle.connection.proofs.Examples.{queries}
-use Rattle.printout.specs.Decimal.{decimalWithin, decimal, integerText, cellText}
+use Rattle.printout.specs.Decimal.{decimalWithin, decimal, integerText, valueText, cellText}
 use Rattle.printout.specs.Lines.{behind, line, cellTexts, rowLines, headLine, queryRefused, bookRefused}
 use Rattle.run.specs.Running.{fullText, answersWithin, answers, printout}
 
@@ -187,29 +188,69 @@ datedRuns =
     ∷ record { gives = asked (club ∷ club ∷ []); says = stopped (52 ∷ []) }
     ∷ []
 
+-- ---- runs of the unit, by request 5
+
+-- attributes 0, a name, 1, a length, and 2, a date; objects 0 {0, 1} and 1 {0, 2}, each with a row that nobody noted
+-- and one of name 7; both in one maximal object
+unfoldable pub gaps : List Record
+gaps =
+    Attribute 0 0 ∷ Attribute 1 1 ∷ Attribute 2 3 ∷ Object 0 3 ∷ Object 1 5 ∷ Declared 3
+    ∷ Row 0 7 9 0 0 0 0 ∷ Row 0 4294967295 2147483648 0 0 0 0 ∷ Row 1 4294967295 4294967295 0 0 0 0 ∷ Row 1 7 8 0 0 0 0
+    ∷ []
+
+-- lengths and dates; names and lengths; lengths unequal to 5; then one query more
+unfoldable pub noting : Record → List ℕ
+noting r =
+    printout (bytesOfAll gaps) (bytesOfAll
+    (Item 0 1 ∷ Item 0 2 ∷ End
+    ∷ Item 0 0 ∷ Item 0 1 ∷ End
+    ∷ Item 0 1 ∷ CompareConstant 0 1 1 5 ∷ End
+    ∷ Item 0 1 ∷ r ∷ End ∷ []))
+
+-- "matches nothing, itself included", "prints as `-` and sorts first", "each of the six operators is false"
+unfoldable pub noted : List ℕ
+noted =
+    81 ∷ 32 ∷ 49 ∷ 32 ∷ 114 ∷ 111 ∷ 119 ∷ 115 ∷ 32 ∷ 49 ∷ 10  -- Q 1 rows 1
+    ∷ 57 ∷ 32 ∷ 56 ∷ 10  -- 9 8
+    ∷ 81 ∷ 32 ∷ 50 ∷ 32 ∷ 114 ∷ 111 ∷ 119 ∷ 115 ∷ 32 ∷ 50 ∷ 10  -- Q 2 rows 2
+    ∷ 45 ∷ 32 ∷ 45 ∷ 10  -- - -
+    ∷ 55 ∷ 32 ∷ 57 ∷ 10  -- 7 9
+    ∷ 81 ∷ 32 ∷ 51 ∷ 32 ∷ 114 ∷ 111 ∷ 119 ∷ 115 ∷ 32 ∷ 49 ∷ 10  -- Q 3 rows 1
+    ∷ 57 ∷ 10  -- 9
+    ∷ []
+
+-- "A constant may not be missing (5, after 11)"
+unfoldable pub gapRuns : List Trial
+gapRuns =
+    record { gives = noting (CompareConstant 0 1 0 2147483648); says = noted ++ refused (53 ∷ []) }
+    ∷ record { gives = noting (CompareConstant 0 0 1 4294967295); says = noted ++ refused (53 ∷ []) }
+    ∷ record { gives = noting (CompareConstant 0 0 2 4294967295); says = noted ++ refused (49 ∷ 49 ∷ []) }
+    ∷ []
+
 -- ---- the theorems
 
 all-hold :
     (map (λ t. t .gives) starred ≡ map (λ t. t .says) starred)
     × (map (λ t. t .gives) runs ≡ map (λ t. t .says) runs)
     × (map (λ t. t .gives) datedRuns ≡ map (λ t. t .says) datedRuns)
-unfolding datedRuns asked club dated refused keepsRules entryKeeps everyBelow mirrored withTable runs run apart first
-    second twelve stopped output queries printout answers answersWithin fullText headLine rowLines cellTexts line
-    behind bookRefused queryRefused cellText integerText decimal decimalWithin number spaceNumber rowsOf answerRows
-    itemKinds choices inFront rowsFor cellsOf allTrue isTrue rightKind rightCell itemCells Answers.rowsOf connection
-    parts insertRows insertRow lessRow tablesOf Tables.rowsOf Tables.rowOf Tables.cellsOf part joinRows goingOn
-    eachPassing matchesAll rowsMatch allPass shownRows together project projected holds compares
+    × (map (λ t. t .gives) gapRuns ≡ map (λ t. t .says) gapRuns)
+unfolding gapRuns noted noting gaps datedRuns asked club dated refused keepsRules entryKeeps everyBelow mirrored
+    withTable runs run apart first second twelve stopped output queries printout answers answersWithin fullText headLine
+    rowLines cellTexts line behind bookRefused queryRefused cellText valueText integerText decimal decimalWithin number
+    spaceNumber rowsOf answerRows itemKinds choices inFront rowsFor cellsOf allTrue isTrue rightKind rightCell itemCells
+    Answers.rowsOf connection parts insertRows insertRow lessRow tablesOf Tables.rowsOf Tables.rowOf Tables.cellsOf part
+    joinRows goingOn eachPassing matchesAll rowsMatch allPass shownRows together project projected holds compares
     matches lessCell valueOf signed refusal Query.read atEnd wholeNumber someUnconnected unconnected isNil containing
     walkQuery isEnd Queries.faultOf Queries.checks ofQuery askedOf filled attributesNamed naming namesOf nameOf
-    comparisonsOf comparisonOf itemsOf itemOf allows builtIn starred banking sizes survey ring read afterLast
-    lastFault lastNumber records walk walkFrom shortNumber withRow isRow maximalsOf declare withOnly withRemoved
-    withDeclared withDependency withObject withAttribute nothingDeclared faultOf checks maximalChecks rowChecks
-    wrongCells someOutside someNonZero firstOf ofBook cyclicOf bothOf maximalOf computedOf pairs someCyclic counted
-    bothKinds maximalObjects adding removing isOne computed grown rounds holding joins attributesOf familyOf closure
-    passes pass cellOf readAt readFront recordOf bodies bytesOfAll bytesOf kindOf bodyLength whose kinds isKind field
-    value bytes kept keptOf keeps goes goesFor acyclic left settle staying stays removable someHolds around union
-    inRange members rank isEmpty single _∖_ _∪_ _∩_ within has bit
-all-hold = (refl, refl, refl)
+    comparisonsOf comparisonOf itemsOf itemOf allows builtIn starred banking sizes survey ring read afterLast lastFault
+    lastNumber records walk walkFrom shortNumber withRow isRow maximalsOf declare withOnly withRemoved withDeclared
+    withDependency withObject withAttribute nothingDeclared faultOf checks maximalChecks rowChecks wrongCells
+    someOutside someNonZero firstOf ofBook cyclicOf bothOf maximalOf computedOf pairs someCyclic counted bothKinds
+    maximalObjects adding removing isOne computed grown rounds holding joins attributesOf familyOf closure passes pass
+    cellOf readAt readFront recordOf bodies bytesOfAll bytesOf kindOf bodyLength whose kinds isKind field value bytes
+    kept keptOf keeps goes goesFor acyclic left settle staying stays removable someHolds around union missing inRange
+    members rank isEmpty single _∖_ _∪_ _∩_ within has bit
+all-hold = (refl, refl, refl, refl)
 
 pub starred-hold : map (λ t. t .gives) starred ≡ map (λ t. t .says) starred
 starred-hold = all-hold .0
@@ -219,3 +260,6 @@ runs-hold = all-hold .1
 
 pub dated-runs-hold : map (λ t. t .gives) datedRuns ≡ map (λ t. t .says) datedRuns
 dated-runs-hold = all-hold .2
+
+pub gap-runs-hold : map (λ t. t .gives) gapRuns ≡ map (λ t. t .says) gapRuns
+gap-runs-hold = all-hold .3

@@ -11,7 +11,10 @@ fn main() {
     sets_trial::containment();
     values_trial::operators();
     values_trial::ranges();
+    values_trial::gaps();
     values_trial::orders();
+    values_trial::matches();
+    values_trial::comparisons();
     let mut input = io::large_buffer();
     let n = io::read_full(STDIN_FILENO, &mut input);
     books_trial::books(&input[..n]);

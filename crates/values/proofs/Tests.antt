@@ -25,6 +25,14 @@ pub not-true : {t : Bool} → (not t ≡ true) ↔ ¬ (t ≡ true)
 not-true {t = true} = (λ e. absurd (false≢true e), λ f. absurd (f refl))
 not-true {t = false} = (λ e f. false≢true f, λ f. refl)
 
+pub yes-both : (s t : Bool) → s && t ≡ true → (s ≡ true) × (t ≡ true)
+yes-both true t e = (refl, e)
+yes-both false t e = absurd (false≢true e)
+
+pub yes-not : (t : Bool) → not t ≡ true → t ≡ false
+yes-not true e = absurd (false≢true e)
+yes-not false e = refl
+
 -- two tests that pass at the same time
 same-truth : {s t : Bool} → (s ≡ true → t ≡ true) → (t ≡ true → s ≡ true) → s ≡ t
 same-truth {s = true} {t = true} there back = refl

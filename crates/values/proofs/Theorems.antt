@@ -1,17 +1,29 @@
 -- The theorems of `specs/Statements.antt`, in its order.
--- In order: the order by value, operators, the comparison table and its rules, sides turned.
+-- In order: missing cells, the order by value, match, operators, the comparison table and its rules, sides turned.
 -- Assumes nothing.
 use mathlib.Core.Path.{refl, _∙_}
 use mathlib.Core.Bool.{or-false}
 use Prim.Native.Nat.{ℕ}
 use Rattle.values.specs.Table.{builtIn}
-use Rattle.values.specs.Statements.{OrderedByValue, OrderedAcross, OperatorsMean, TableAllows, RulesTested}
-use Rattle.values.specs.Statements.{BuiltInKeeps, AllowedMeans, Turned}
+use Rattle.values.specs.Statements.{MissingCells, OrderedByValue, OrderedAcross, MatchesMean, OperatorsMean}
+use Rattle.values.specs.Statements.{TableAllows, RulesTested, BuiltInKeeps, AllowedMeans, Turned}
+use Rattle.values.proofs.Values.{missing-lengths, missing-others, least-length, minus-one, missing-in-range}
+use Rattle.values.proofs.Values.{matches-yes, matches-equal, matches-stated}
 use Rattle.values.proofs.Values.{less-agrees, less-irreflexive, less-transitive, less-total}
 use Rattle.values.proofs.Values.{less-key, key-injective, raised-order}
-use Rattle.values.proofs.Operators.{numbered, holds-means, holds-means-number, holds-mirror, holds-opposite}
+use Rattle.values.proofs.Operators.{numbered, holds-none, holds-means, holds-means-number, holds-mirror}
+use Rattle.values.proofs.Operators.{holds-opposite}
 use Rattle.values.proofs.Table.{rule, rule-none, built-in-rule, within-two, within-six, allows-no-left}
 use Rattle.values.proofs.Table.{allows-known, rules-tested, built-in-keeps, allows-mirror}
+
+pub missing-cells : MissingCells
+missing-cells = record {
+  lengths = missing-lengths;
+  others = missing-others;
+  least = least-length;
+  minusOne = minus-one;
+  inEachRange = missing-in-range;
+}
 
 pub ordered-by-value : (kind : ℕ) → OrderedByValue kind
 ordered-by-value kind = record {
@@ -26,6 +38,11 @@ ordered-by-value kind = record {
 pub ordered-across : OrderedAcross
 unfolding OrderedAcross
 ordered-across kind kind2 a b p q = raised-order kind kind2 p q
+
+pub matches-mean : MatchesMean
+unfolding MatchesMean
+matches-mean kind a b =
+    (λ e. (matches-stated kind a b e, matches-equal kind a b e), λ (n, e). matches-yes kind n e)
 
 pub operators-mean : OperatorsMean
 unfolding OperatorsMean
@@ -57,4 +74,9 @@ allowed-means table operator left right a b e =
     (o, p, holds-means-number o operator left right a b p)
 
 pub turned : Turned
-turned = record { allowed = allows-mirror; held = holds-mirror; denied = holds-opposite }
+turned = record {
+  allowed = allows-mirror;
+  held = holds-mirror;
+  denied = holds-opposite;
+  neither = holds-none;
+}

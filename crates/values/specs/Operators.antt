@@ -4,14 +4,14 @@
 -- Not here: the comparison table (`Table`).
 -- Assumes nothing.
 use mathlib.Core.Path.{_≡_}
-use mathlib.Core.Bool.{Bool, false, not}
+use mathlib.Core.Bool.{Bool, false, not, _&&_, _||_}
 use mathlib.Core.List.{[], _∷_}
 use Prim.Native.Nat.{ℕ}
 use lib.Dec.{eqb}
 use lib.IntN.{ℤ, pos, negsuc}
 use lib.ListN.{getD}
 use lib.Signed.{ltZ, leZ, _<ℤ_, _≤ℤ_}
-use Rattle.values.specs.Values.{valueOf}
+use Rattle.values.specs.Values.{missing, valueOf}
 
 pub data Operator : Type 0 where
   equal unequal less atMost greater atLeast : Operator
@@ -47,15 +47,17 @@ compares operator x y =
     getD (eqZ x y ∷ not (eqZ x y) ∷ ltZ x y ∷ leZ x y ∷ ltZ y x ∷ leZ y x ∷ []) operator false
 
 -- Whether an operator, by its number, holds of two cells, each of its own kind. "Between kinds, values are compared as
--- whole numbers." (request 7)
+-- whole numbers." (request 7) "With a missing cell each of the six operators is false" (request 5).
 unfoldable pub holds : ℕ → ℕ → ℕ → ℕ → ℕ → Bool
-holds operator kind kind2 left right = compares operator (valueOf kind left) (valueOf kind2 right)
+holds operator kind kind2 left right =
+    not (missing kind left || missing kind2 right) && compares operator (valueOf kind left) (valueOf kind2 right)
 
 -- The operator that says the same with the sides turned: less with greater, at most with at least, equal and unequal
 -- each with itself.
 unfoldable pub mirror : ℕ → ℕ
 mirror operator = getD (0 ∷ 1 ∷ 4 ∷ 5 ∷ 2 ∷ 3 ∷ []) operator operator
 
--- The operator that says the contrary: equal with unequal, less with at least, at most with greater.
+-- The operator that says the contrary of two values: equal with unequal, less with at least, at most with greater. Of
+-- missing cells neither holds.
 unfoldable pub opposite : ℕ → ℕ
 opposite operator = getD (1 ∷ 0 ∷ 5 ∷ 4 ∷ 3 ∷ 2 ∷ []) operator operator

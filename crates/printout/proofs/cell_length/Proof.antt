@@ -1,59 +1,22 @@
--- `printout::cell_length` meets its contract, with a minus and without (`minus-counted`, `plain-counted`).
--- Assumes nothing.
+-- `printout::cell_length` meets its contract, of a missing cell and of one that is there. Assumes nothing.
 use borrow.Author.Needs.{needs}
-use Rattle.printout.proofs.Decimal.{minus-counted, plain-counted}
+use Rattle.printout.proofs.Decimal.{missing-counted, value-counted}
 use Rattle.printout.proofs.cell_length.Statement.{statement}
 use Rattle.printout.proofs.cell_length.Tie as tie
 
-has-minus-requires : tie.Need-has-minus-requires
-has-minus-requires c κs = search needs
-
-wide-requires : tie.Need-wide-requires
-wide-requires c κs = search needs
-
-sub-decimal-length : tie.Need-sub-decimal-length
-sub-decimal-length c = search needs
-
-decimal-length-requires : tie.Need-decimal-length-requires
-decimal-length-requires c κs = search needs
-
-add-result : tie.Need-add-result
-add-result c = search needs
+missing-requires : tie.Need-missing-requires
+missing-requires c κs = search needs
 
 returns : tie.Need-returns
-returns c =
-    let at-wide = c .before in
-    let at-if1 = at-wide .before in
-    let at-has-minus = at-if1 .before in
-    let start = at-has-minus .before in
-    minus-counted (start .args .kind) (start .args .cell) (at-has-minus .has-minus .ensures)
-    (at-wide .wide .ensures) (at-if1 .if1 .taken) (c .decimal-length .ensures .0)
+returns c = missing-counted _ _ (c .before .missing .ensures) (c .if1 .taken)
 
-wide-requires-2 : tie.Need-wide-requires-2
-wide-requires-2 c κs = search needs
-
-decimal-length-requires-2 : tie.Need-decimal-length-requires-2
-decimal-length-requires-2 c κs = search needs
+value-length-requires : tie.Need-value-length-requires
+value-length-requires c κs = search needs
 
 returns-2 : tie.Need-returns-2
 returns-2 c =
-    let at-wide2 = c .before in
-    let at-if1 = at-wide2 .before in
-    let at-has-minus = at-if1 .before in
-    let start = at-has-minus .before in
-    plain-counted (start .args .kind) (start .args .cell) (at-has-minus .has-minus .ensures)
-    (at-wide2 .wide2 .ensures) (at-if1 .if1 .left) (c .decimal-length2 .ensures .0)
+    value-counted _ _ (c .before .before .missing .ensures) (c .before .if1 .left) (c .value-length .ensures .0)
+    (c .value-length .ensures .1)
 
 pub cell-length-spec : {M : Type 1} → statement M
-cell-length-spec =
-    tie.close
-    (tie.spec
-    has-minus-requires
-    wide-requires
-    sub-decimal-length
-    decimal-length-requires
-    add-result
-    returns
-    wide-requires-2
-    decimal-length-requires-2
-    returns-2)
+cell-length-spec = tie.close (tie.spec missing-requires returns value-length-requires returns-2)

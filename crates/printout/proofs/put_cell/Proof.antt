@@ -1,91 +1,48 @@
--- `printout::put_cell` meets its contract: a minus and the digits, or the digits only.
+-- `printout::put_cell` meets its contract: a minus alone, or the value.
 -- Assumes nothing.
-use native.Mathlib.Omega.{arith}
 use borrow.Author.Needs.{needs}
-use Rattle.printout.proofs.Writing.{minus-room, digits-room, digits-written, plain-room, plain-written}
+use Rattle.printout.proofs.Writing.{missing-room, missing-written, value-room, value-written}
 use Rattle.printout.proofs.put_cell.Statement.{statement}
 use Rattle.printout.proofs.put_cell.Tie as tie
 
-has-minus-requires : tie.Need-has-minus-requires
-has-minus-requires c κs = search needs
+missing-requires : tie.Need-missing-requires
+missing-requires c κs = search needs
 
 put-byte-requires : tie.Need-put-byte-requires
 put-byte-requires c κs =
-    let at-if1 = c .before in
-    let at-has-minus = at-if1 .before in
-    let start = at-has-minus .before .before in
-    minus-room (start .args .kind) (start .args .cell) (start .args .at) (start .args .out .now) (start .pre)
-    (at-has-minus .has-minus .ensures) (at-if1 .if1 .taken) (omega arith)
-
-wide-requires : tie.Need-wide-requires
-wide-requires c κs = search needs
-
-sub-put-decimal : tie.Need-sub-put-decimal
-sub-put-decimal c = search needs
-
-put-decimal-requires : tie.Need-put-decimal-requires
-put-decimal-requires c κs =
-    let at-put-byte = c .before .before .before .before in
-    let at-if1 = at-put-byte .before .before in
-    let at-has-minus = at-if1 .before in
-    let start = at-has-minus .before .before in
-    digits-room (start .args .kind) (start .args .cell) (start .args .at) (start .args .out .now) (start .pre)
-    (at-has-minus .has-minus .ensures) (c .wide .ensures) (at-if1 .if1 .taken) (at-put-byte .put-byte .ensures .0)
-    (at-put-byte .put-byte .ensures .1)
+    let start = c .before .before .before .before in
+    missing-room (start .args .kind) (start .args .cell) (start .args .at) (start .args .out .now) (start .pre)
+    (c .before .before .missing .ensures) (c .before .if1 .taken)
 
 same-length : tie.Need-same-length
 same-length c = search needs
 
 returns : tie.Need-returns
 returns c =
-    let at-put-decimal = c .before .before in
-    let at-wide = at-put-decimal .before in
-    let at-put-byte = at-wide .before .before .before .before in
-    let at-if1 = at-put-byte .before .before in
-    let at-has-minus = at-if1 .before in
-    let start = at-has-minus .before .before in
-    digits-written (start .args .kind) (start .args .cell) (start .args .at) (start .args .out .now) (start .pre)
-    (at-has-minus .has-minus .ensures) (at-wide .wide .ensures) (at-if1 .if1 .taken)
-    (at-put-byte .put-byte .ensures .0) (at-put-byte .put-byte .ensures .1)
-    (at-put-decimal .put-decimal .ensures .0) (at-put-decimal .put-decimal .ensures .1)
+    let start = c .before .before .before .before .before .before .before in
+    let put = c .before .before .put-byte .ensures in
+    missing-written (start .args .kind) (start .args .cell) (start .args .at) (start .args .out .now) (start .pre)
+    (c .before .before .before .before .before .missing .ensures) (c .before .before .before .before .if1 .taken)
+    (put .0) (put .1)
 
-wide-requires-2 : tie.Need-wide-requires-2
-wide-requires-2 c κs = search needs
-
-put-decimal-requires-2 : tie.Need-put-decimal-requires-2
-put-decimal-requires-2 c κs =
-    let at-if1 = c .before .before in
-    let at-has-minus = at-if1 .before in
-    let start = at-has-minus .before .before in
-    plain-room (start .args .kind) (start .args .cell) (start .args .at) (start .args .out .now) (start .pre)
-    (at-has-minus .has-minus .ensures) (c .wide2 .ensures) (at-if1 .if1 .left)
+put-value-requires : tie.Need-put-value-requires
+put-value-requires c κs =
+    let start = c .before .before .before .before in
+    value-room (start .args .kind) (start .args .cell) (start .args .at) (start .args .out .now) (start .pre)
+    (c .before .before .missing .ensures) (c .before .if1 .left)
 
 same-length-2 : tie.Need-same-length-2
 same-length-2 c = search needs
 
 returns-2 : tie.Need-returns-2
 returns-2 c =
-    let at-put-decimal2 = c .before .before in
-    let at-wide2 = at-put-decimal2 .before in
-    let at-if1 = at-wide2 .before .before in
-    let at-has-minus = at-if1 .before in
-    let start = at-has-minus .before .before in
-    plain-written (start .args .kind) (start .args .cell) (start .args .at) (start .args .out .now) (start .pre)
-    (at-has-minus .has-minus .ensures) (at-wide2 .wide2 .ensures) (at-if1 .if1 .left)
-    (at-put-decimal2 .put-decimal2 .ensures .0) (at-put-decimal2 .put-decimal2 .ensures .1)
+    let start = c .before .before .before .before .before .before .before in
+    let put = c .before .before .put-value .ensures in
+    value-written (start .args .kind) (start .args .cell) (start .args .at) (start .args .out .now) (start .pre)
+    (c .before .before .before .before .before .missing .ensures) (c .before .before .before .before .if1 .left)
+    (put .0) (put .1)
 
 pub put-cell-spec : {M : Type 1} → statement M
 put-cell-spec =
     tie.close
-    (tie.spec
-    has-minus-requires
-    put-byte-requires
-    wide-requires
-    sub-put-decimal
-    put-decimal-requires
-    same-length
-    returns
-    wide-requires-2
-    put-decimal-requires-2
-    same-length-2
-    returns-2)
+    (tie.spec missing-requires put-byte-requires same-length returns put-value-requires same-length-2 returns-2)

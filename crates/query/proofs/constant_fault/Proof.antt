@@ -1,7 +1,7 @@
 -- `query::constant_fault` meets its contract: each way out is the first check of kind 9 that holds. Assumes nothing.
 use Rattle.query.proofs.Faulting.{constant-over, constant-variable, constant-attribute, constant-operator}
 use Rattle.query.proofs.Faulting.{constant-undeclared}
-use Rattle.query.proofs.Faulting.{constant-not-allowed, constant-outside, constant-right}
+use Rattle.query.proofs.Faulting.{constant-not-allowed, constant-outside, constant-missing, constant-right}
 use borrow.Author.Needs.{needs}
 use Rattle.query.proofs.constant_fault.Statement.{statement}
 use Rattle.query.proofs.constant_fault.Tie as tie
@@ -42,8 +42,14 @@ in-range-requires c κs = search needs
 returns-7 : tie.Need-returns-7
 returns-7 c = search (needs, constant-outside)
 
+missing-requires : tie.Need-missing-requires
+missing-requires c κs = search needs
+
 returns-8 : tie.Need-returns-8
-returns-8 c = search (needs, constant-right)
+returns-8 c = search (needs, constant-missing)
+
+returns-9 : tie.Need-returns-9
+returns-9 c = search (needs, constant-right)
 
 pub constant-fault-spec : {M : Type 1} → statement M
 constant-fault-spec =
@@ -61,4 +67,6 @@ constant-fault-spec =
     returns-6
     in-range-requires
     returns-7
-    returns-8)
+    missing-requires
+    returns-8
+    returns-9)

@@ -1,14 +1,14 @@
--- `trials::values_trial::order_line` ends and stays within its array: `i` counts to 5. Assumes nothing.
+-- `trials::values_trial::order_line` ends and stays within its array: `i` counts to 7. Assumes nothing.
 use Prim.Native.Nat.{_≤_, _-_}
 use borrow.Author.Needs.{needs}
 use Rattle.trials.proofs.values_trial.order_line.Statement.{statement}
 use Rattle.trials.proofs.values_trial.order_line.Tie as tie
 
 abbrev Inv-loop : tie.InvT-loop
-Inv-loop kind a i₀ i = i ≤ 5
+Inv-loop kind a i₀ i = i ≤ 7
 
 abbrev μ-loop : tie.MeasureT-loop
-μ-loop kind a i₀ i = 5 - i
+μ-loop kind a i₀ i = 7 - i
 
 slice-aggregate-word : tie.Need-slice-aggregate-word Inv-loop μ-loop
 slice-aggregate-word c = search needs

@@ -1,14 +1,14 @@
--- `trials::values_trial::order_lines` ends and stays within its array: `i` counts to 5. Assumes nothing.
+-- `trials::values_trial::order_lines` ends and stays within its array: `i` counts to 7. Assumes nothing.
 use Prim.Native.Nat.{_≤_, _-_}
 use borrow.Author.Needs.{needs}
 use Rattle.trials.proofs.values_trial.order_lines.Statement.{statement}
 use Rattle.trials.proofs.values_trial.order_lines.Tie as tie
 
 abbrev Inv-loop : tie.InvT-loop
-Inv-loop kind i₀ i = i ≤ 5
+Inv-loop kind i₀ i = i ≤ 7
 
 abbrev μ-loop : tie.MeasureT-loop
-μ-loop kind i₀ i = 5 - i
+μ-loop kind i₀ i = 7 - i
 
 loop-holds : tie.Need-loop-holds Inv-loop μ-loop
 loop-holds c = search needs

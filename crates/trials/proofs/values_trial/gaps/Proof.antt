@@ -1,0 +1,34 @@
+-- `trials::values_trial::gaps` ends and stays within its array: `kind` counts to 4. Assumes nothing.
+use Prim.Native.Nat.{_≤_, _-_}
+use borrow.Author.Needs.{needs}
+use Rattle.trials.proofs.values_trial.gaps.Statement.{statement}
+use Rattle.trials.proofs.values_trial.gaps.Tie as tie
+
+abbrev Inv-loop : tie.InvT-loop
+Inv-loop kind₀ kind = kind ≤ 4
+
+abbrev μ-loop : tie.MeasureT-loop
+μ-loop kind₀ kind = 4 - kind
+
+loop-holds : tie.Need-loop-holds Inv-loop μ-loop
+loop-holds c = search needs
+
+missing-line-requires : tie.Need-missing-line-requires Inv-loop μ-loop
+missing-line-requires c κs = search needs
+
+add-kind : tie.Need-add-kind Inv-loop μ-loop
+add-kind c = search needs
+
+loop-less : tie.Need-loop-less Inv-loop μ-loop
+loop-less c = search needs
+
+loop-again : tie.Need-loop-again Inv-loop μ-loop
+loop-again c = search needs
+
+returns : tie.Need-returns Inv-loop μ-loop
+returns c = search needs
+
+pub gaps-spec : {M : Type 1} → statement M
+gaps-spec =
+    tie.close
+    (tie.spec Inv-loop μ-loop loop-holds missing-line-requires add-kind loop-less loop-again returns)
