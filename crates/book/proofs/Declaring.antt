@@ -1,12 +1,12 @@
 -- What a record without a fault has, by its kind, and records by their variant.
 -- In order: what a fault of 0 says, the variants that add nothing, rows, the kinds of a query, bodies cut short.
 -- Assumes nothing.
-use mathlib.Core.Path.{_≡_, refl, ap, ap₂, sym, _∙_}
-use mathlib.Core.Bool.{Bool, true, false, not, _&&_, _||_}
+use mathlib.Core.Path.{_≡_, refl, ap, sym, _∙_}
+use mathlib.Core.Bool.{Bool, true, false, not, _||_}
 use mathlib.Core.List.{List, [], _∷_}
 use Prim.Native.Nat.{ℕ, _≤_, _<_}
 use native.Mathlib.Omega.{arith}
-use borrow.Author.Tests.{ltb-false, leb-false, le-leb, lt-leb, not-false}
+use borrow.Author.Tests.{ltb-false, leb-false, not-false}
 use lib.Dec.{ltb, leb}
 use lib.ListN.{getD}
 use types.Run.{OneOf, miss}
@@ -28,7 +28,7 @@ use Rattle.records.proofs.Checks.{none-first}
 use Rattle.scheme.specs.declared.Scheme.{Scheme}
 use Rattle.scheme.specs.Statements.{SomeObjects}
 use Rattle.sets.specs.Sets.{_∈_, _∉_, has, within, isEmpty, count}
-use Rattle.sets.proofs.Tests.{and-yes, no-or}
+use Rattle.sets.proofs.Tests.{no-or}
 use Rattle.sets.proofs.Sets.{yes-has, no-has, yes-within, no-isEmpty}
 use Rattle.book.specs.Faults.{wrongCells, rowChecks, maximalChecks, checks, faultOf}
 use Rattle.book.specs.Declaring.{declare}

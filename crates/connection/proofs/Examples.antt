@@ -45,7 +45,7 @@ use Rattle.sorted.specs.Rows as Sorted
 use Rattle.sorted.specs.Rows.{lessRow, insertRow, insertRows, withRows}
 use Rattle.connection.specs.declared.Answer.{Answer}
 use Rattle.connection.specs.Connection.{parts, connection}
-use Rattle.connection.specs.Answers.{itemCells, rightCell, rightKind, isTrue, allTrue, cellsOf, rowsFor, inFront}
+use Rattle.connection.specs.Answers.{itemCells, rightCell, isTrue, allTrue, cellsOf, rowsFor, inFront}
 use Rattle.connection.specs.Answers.{choices}
 use Rattle.connection.specs.Answers.{itemKinds, answerRows}
 use Rattle.connection.specs.Answers as Answers
@@ -149,7 +149,7 @@ outcomes =
 
 pub outcomes-hold : map (λ t. t .gives) outcomes ≡ map (λ t. t .says) outcomes
 unfolding outcomes outcome queries twoObjects lengths withEmpty survey ring spaceAfter answerOf refused number
-    spaceNumber rowsOf answerRows itemKinds choices inFront rowsFor cellsOf allTrue isTrue rightKind rightCell
+    spaceNumber rowsOf answerRows itemKinds choices inFront rowsFor cellsOf allTrue isTrue rightCell
     itemCells Answers.rowsOf connection parts withRows Sorted.cellsOf insertRows insertRow lessRow Query.read atEnd
     wholeNumber someUnconnected unconnected isNil containing walkQuery isEnd Queries.faultOf Queries.checks ofQuery
     askedOf filled attributesNamed naming namesOf nameOf comparisonsOf comparisonOf itemsOf itemOf tablesOf
@@ -197,7 +197,7 @@ rowTrials =
 
 pub rows-hold : map (λ t. t .gives) rowTrials ≡ map (λ t. t .says) rowTrials
 unfolding rowTrials rows twoObjects lengths withEmpty survey ring spaceAfter answerOf refused number spaceNumber rowsOf
-    answerRows itemKinds choices inFront rowsFor cellsOf allTrue isTrue rightKind rightCell itemCells Answers.rowsOf
+    answerRows itemKinds choices inFront rowsFor cellsOf allTrue isTrue rightCell itemCells Answers.rowsOf
     connection parts withRows Sorted.cellsOf insertRows insertRow lessRow Query.read atEnd wholeNumber someUnconnected
     unconnected isNil containing walkQuery isEnd Queries.faultOf Queries.checks ofQuery askedOf filled attributesNamed
     naming namesOf nameOf comparisonsOf comparisonOf itemsOf itemOf tablesOf Tables.rowsOf Tables.rowOf Tables.cellsOf

@@ -29,9 +29,10 @@ use Rattle.query.specs.Accepting.{NamedIn}
 use Rattle.connection.specs.Connection.{InPart, InConnection}
 use Rattle.connection.specs.Answers.{Cells, cellsOf, InAnswer, shownTables}
 use Rattle.plan.specs.Planned.{leftOf}
+use Rattle.plan.proofs.Families.{object-in-family}
 use Rattle.connection.specs.Fitting.{tableOf, RowFits, FitsObject, FitsVariable, FitsQuery}
 use Rattle.connection.specs.Statements.{NamesInRange}
-use Rattle.connection.proofs.Shown.{object-in-family, row-of-object, of-shown-row, shownOn, shown-has, of-shown}
+use Rattle.connection.proofs.Shown.{row-of-object, of-shown-row, shownOn, shown-has, of-shown}
 use Rattle.connection.proofs.Shown.{kept-of-two, of-two-keep}
 use Rattle.connection.proofs.Named.{AgreeOnNames, items-agree, true-agrees, shown-agree, forEach, for-each}
 

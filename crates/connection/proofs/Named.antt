@@ -7,7 +7,6 @@ use mathlib.Core.Bool.{true, false}
 use mathlib.Core.Logic.{_⊎_, inl, inr, ⊎-elim}
 use mathlib.Core.List.{List, [], _∷_, map, List·Memᴰ, List·Memᴰ·head, List·Memᴰ·tail, List·Memᴰ·not-nil}
 use Prim.Native.Nat.{ℕ}
-use lib.ListN.{getD}
 use Rattle.sets.specs.Sets.{isEmpty, members}
 use Rattle.sets.proofs.Tests.{yes-or-no, yes-no}
 use Rattle.sets.proofs.Sets.{isEmpty-no, no-isEmpty}
@@ -23,7 +22,7 @@ use Rattle.query.specs.Asking.{itemsOf, comparisonsOf, attributesNamed}
 use Rattle.query.specs.Accepting.{Names, item, left, right, ofConstant, NamedIn}
 use Rattle.query.specs.Statements.{SaysComparison, two, constant}
 use Rattle.query.proofs.Theorems.{records-ask}
-use Rattle.connection.specs.Answers.{Cells, itemCells, rightCell, kindAt, rightKind, isTrue, cellsOf}
+use Rattle.connection.specs.Answers.{Cells, itemCells, rightCell, kindAt, isTrue, cellsOf}
 use Rattle.connection.specs.Statements.{NamesInRange}
 
 -- ---- items and comparisons are named
@@ -91,7 +90,7 @@ module _ {rs : List Record} {f g : Cells} (s : AgreeOnNames rs f g) where
 
   says-agree : (o : Outcome) {r : Record} {c : Comparison} → List·Memᴰ r rs → SaysComparison r c
       → isTrue o c f ≡ isTrue o c g
-  unfolding isTrue rightCell rightKind
+  unfolding isTrue rightCell
   says-agree o {r} m (two {v} {a} {operator} {v2} {a2}) =
       ap₂ (holds operator (kindAt o a) (kindAt o a2))
       (s .each v a (record { by = r; there = m; names = left }))

@@ -2,15 +2,11 @@
 -- In order: cells of the book, cells that fit, rows of the connection.
 -- Assumes nothing.
 use mathlib.Core.Path.{_≡_, sym, ap, _∙_, subst}
-use mathlib.Core.Bool.{Bool, true, false, cond, _&&_}
+use mathlib.Core.Bool.{true}
 use mathlib.Core.List.{List, List·Memᴰ, Memᴰ·of-map}
 use Prim.Native.Nat.{ℕ, _<_, _^_}
-use native.Mathlib.Omega.{arith}
-use borrow.Author.Tests.{ltb-true}
-use lib.Dec.{eqb, ltb}
 use lib.ListN.{getD}
 use Rattle.sets.specs.Sets.{_∈_}
-use Rattle.sets.proofs.Tests.{yes-and}
 use Rattle.values.specs.Values.{inRange}
 use Rattle.values.proofs.Values.{inRange-lt}
 use Rattle.reduction.specs.Statements.{OfAttributes}
@@ -18,7 +14,7 @@ use Rattle.reduction.proofs.Left.{in-union}
 use Rattle.relation.specs.Tables.{Row, cellOf, Table, family}
 use Rattle.relation.proofs.Tables.{cell-of-map}
 use Rattle.scheme.specs.Growing.{familyOf}
-use Rattle.book.specs.Reading.{Outcome, read}
+use Rattle.book.specs.Reading.{read}
 use Rattle.book.specs.TablesOf.{rowsOf}
 use Rattle.book.proofs.Theorems.{tables-of-book}
 use Rattle.connection.specs.Connection.{InConnection}

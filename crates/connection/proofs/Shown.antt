@@ -1,28 +1,24 @@
 -- The objects that show a set: the tables shown for M and X are those of the kept sets, and their rows are those that
 -- the objects which contain a kept set have on it.
--- In order: places of objects, kept sets and their objects, an object contains at most one, the tables of the objects,
--- the rows that objects show on a set, the kept sets of the tables, the tables shown, attributes of two kept sets.
+-- In order: places of objects, kept sets and their objects, the tables of the objects, the rows that objects show on a
+-- set, the kept sets of the tables, the tables shown, attributes of two kept sets.
 -- Assumes nothing.
-use mathlib.Core.Path.{_≡_, refl, sym, ap, _∙_, subst, subst₂}
+use mathlib.Core.Path.{_≡_, refl, sym, ap, _∙_, subst}
 use mathlib.Core.Logic.{⊎-elim}
-use mathlib.Core.List.{List, [], _∷_, map, List·Memᴰ, Memᴰ·cast, Memᴰ·map, Memᴰ·of-map}
-use Prim.Native.Nat.{ℕ, _≤_, _<_}
+use mathlib.Core.List.{List, List·Memᴰ, Memᴰ·cast, Memᴰ·map, Memᴰ·of-map}
+use Prim.Native.Nat.{ℕ, _<_}
 use native.Mathlib.Nat.{lt-trans}
 use native.Mathlib.Omega.{arith}
-use lib.ListN.{length, getD, length-map}
-use Rattle.sets.specs.Sets.{_∈_, _⊆_, _∩_, rank, members}
+use lib.ListN.{length, getD}
+use Rattle.sets.specs.Sets.{_∈_, _⊆_, rank, members}
 use Rattle.sets.proofs.Numbers.{lt-or-le}
-use Rattle.sets.proofs.Ranks.{rank-lt}
-use Rattle.sets.proofs.Sets.{ext, ∩-⊆-left, ∩-⊆-right, ⊆-∩}
-use Rattle.sets.proofs.Members.{members-only, members-has, length-members, getD-members, members-ascending}
+use Rattle.sets.proofs.Members.{members-only, members-has, getD-members, members-ascending}
 use Rattle.reduction.specs.Steps.{Family, at}
 use Rattle.reduction.specs.Kept.{cutTo, left, keeps, kept}
 use Rattle.reduction.proofs.Places.{mem-at, place-of}
-use Rattle.reduction.proofs.Left.{of-cut, cut-in}
-use Rattle.reduction.proofs.Kept.{yes-keeps, in-keptOf, keptOf-in, kept-none-twice}
-use Rattle.relation.specs.Tables.{Row, Table, tableAt, family, project}
+use Rattle.reduction.proofs.Kept.{in-keptOf, kept-none-twice}
+use Rattle.relation.specs.Tables.{Row, Table, family, project}
 use Rattle.relation.specs.Joins.{OfTwo, keptSets, shownRows, unionTable}
-use Rattle.relation.proofs.Tables.{getD-map-at}
 use Rattle.relation.proofs.Standing.{table-mem}
 use Rattle.relation.proofs.Unions.{shown-at, at-shown}
 use Rattle.relation.proofs.Sharing.{of-two-at}
@@ -31,7 +27,7 @@ use Rattle.book.specs.Reading.{Outcome}
 use Rattle.book.specs.TablesOf.{tablesOf}
 use Rattle.book.proofs.TablesOf.{tables-family}
 use Rattle.plan.specs.Planned.{leftOf, Keeps, keptBy, Shows}
-use Rattle.plan.proofs.Objects.{kept-apart}
+use Rattle.plan.proofs.Families.{rank-place, cut-places, cut-set-at, keeps-kept, kept-apart}
 use Rattle.connection.specs.Answers.{shownTables}
 use Rattle.connection.specs.Fitting.{tableOf}
 
@@ -43,10 +39,6 @@ record MemberAt (M i : ℕ) : Type 0 where
   below : member < 32
   there : member ∈ M
   isAt : rank M member ≡ i
-
--- the rank of a member is a place
-rank-place : {M c : ℕ} → c < 32 → c ∈ M → rank M c < length (members 32 M)
-rank-place {M} {c} h i = subst (λ (n : ℕ). rank M c < n) (sym (length-members 32 M)) (rank-lt i h)
 
 member-at : (M i : ℕ) → i < length (members 32 M) → MemberAt M i
 member-at M i h =
@@ -64,47 +56,9 @@ member-at M i h =
           (lt-or-le (rank M c) i);
     }
 
--- the set of an object in the family
-module _ (sets : List ℕ) (M : ℕ) where
-  family-places : length (familyOf sets M) ≡ length (members 32 M)
-  unfolding familyOf
-  family-places = length-map (members 32 M) (λ k. getD sets k 0)
-
-  cut-places : (A : ℕ) → length (cutTo A (familyOf sets M)) ≡ length (members 32 M)
-  cut-places A = length-map (familyOf sets M) (λ s. s ∩ A) ∙ family-places
-
-  set-at : {c : ℕ} → c < 32 → c ∈ M → at (familyOf sets M) (rank M c) ≡ getD sets c 0
-  unfolding familyOf
-  set-at {c} h i =
-      getD-map-at (λ k. getD sets k 0) 0 0 (members 32 M) (rank M c) (rank-place h i)
-      ∙ ap (λ (k : ℕ). getD sets k 0) (getD-members 32 0 h i)
-
-  pub object-in-family : {c : ℕ} → c < 32 → c ∈ M → List·Memᴰ (getD sets c 0) (familyOf sets M)
-  object-in-family {c} h i =
-      Memᴰ·cast (sym (set-at h i))
-      (mem-at (familyOf sets M) (rank M c) (subst (λ (n : ℕ). rank M c < n) (sym family-places) (rank-place h i)))
-
-cut-at : (A : ℕ) (F : Family) (i : ℕ) → i < length F → at (cutTo A F) i ≡ at F i ∩ A
-cut-at A F i h = getD-map-at (λ s. s ∩ A) 0 0 F i h
-
 -- ---- kept sets and their objects
 
 module _ (sets : List ℕ) (M X : ℕ) where
-  cut-set-at : {c : ℕ} → c < 32 → c ∈ M → at (cutTo (leftOf sets M X) (familyOf sets M)) (rank M c) ≡ keptBy sets M X c
-  cut-set-at {c} h i =
-      cut-at (leftOf sets M X) (familyOf sets M) (rank M c)
-      (subst (λ (n : ℕ). rank M c < n) (sym (family-places sets M)) (rank-place h i))
-      ∙ ap (λ (s : ℕ). s ∩ leftOf sets M X) (set-at sets M h i)
-
-  keeps-kept : {c : ℕ} → Keeps sets M X c → List·Memᴰ (keptBy sets M X c) (kept X (familyOf sets M))
-  unfolding kept
-  keeps-kept {c} s =
-      let G : Family = cutTo (leftOf sets M X) (familyOf sets M) in
-      Memᴰ·cast (sym (cut-set-at (s .below) (s .there)))
-      (keptOf-in G (length G)
-      (subst (λ (n : ℕ). rank M c < n) (sym (cut-places sets M (leftOf sets M X))) (rank-place (s .below) (s .there)))
-      (s .first))
-
   pub kept-keeps : {K : ℕ} → List·Memᴰ K (kept X (familyOf sets M))
       → (c : ℕ) × Keeps sets M X c × (K ≡ keptBy sets M X c)
   unfolding kept
@@ -115,33 +69,8 @@ module _ (sets : List ℕ) (M X : ℕ) where
       let q = member-at M (p .place) h in (
         q .member,
         record { below = q .below; there = q .there; first = ap (keeps G) (q .isAt) ∙ p .keeping },
-        p .holds ∙ ap (at G) (sym (q .isAt)) ∙ cut-set-at (q .below) (q .there),
+        p .holds ∙ ap (at G) (sym (q .isAt)) ∙ cut-set-at sets M (leftOf sets M X) (q .below) (q .there),
       )
-
--- ---- an object contains at most one
-
-module _ (X : ℕ) (F : Family) where
-  -- a kept set lies in the attributes left
-  kept-left : {K : ℕ} → List·Memᴰ K (kept X F) → K ⊆ left X F
-  unfolding kept
-  kept-left m =
-      let G : Family = cutTo (left X F) F in
-      let p = in-keptOf G (length G) m in
-      let c = of-cut F (Memᴰ·cast (p .holds) (mem-at G (p .place) (p .below))) in
-      subst (λ (s : ℕ). s ⊆ left X F) (sym (c .cutting)) (∩-⊆-right (c .whole) (left X F))
-
-  -- where it lies in a set of the family, it is that set cut to them
-  kept-is-cut : {s K : ℕ} → List·Memᴰ s F → List·Memᴰ K (kept X F) → K ⊆ s → K ≡ s ∩ left X F
-  unfolding kept
-  kept-is-cut n m i =
-      let G : Family = cutTo (left X F) F in
-      let p = in-keptOf G (length G) m in
-      let q = place-of (cut-in (left X F) n) in
-      let w = subst₂ _⊆_ (p .holds) (sym (q .holds)) (⊆-∩ i (kept-left m)) in
-      p .holds ∙ ext w (yes-keeps G (p .place) (p .keeping) .widest (q .place) (q .there) w .1) ∙ q .holds
-
-  pub one-kept : {s K L : ℕ} → List·Memᴰ s F → List·Memᴰ K (kept X F) → List·Memᴰ L (kept X F) → K ⊆ s → L ⊆ s → K ≡ L
-  one-kept n k l i j = kept-is-cut n k i ∙ sym (kept-is-cut n l j)
 
 -- ---- the tables of the objects
 

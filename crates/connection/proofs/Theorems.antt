@@ -7,6 +7,7 @@ use lib.ListN.{length-map}
 use Rattle.sets.specs.Sets.{_∈_, _⊆_}
 use Rattle.reduction.specs.Steps.{Family}
 use Rattle.reduction.specs.Statements.{OfAttributes}
+use Rattle.reduction.proofs.Kept.{one-kept}
 use Rattle.records.specs.declared.Record.{Record}
 use Rattle.scheme.specs.Growing.{familyOf, attributesOf}
 use Rattle.scheme.specs.OfScheme.{maximalOf}
@@ -20,7 +21,7 @@ use Rattle.connection.specs.Answers.{kindOf, itemKinds}
 use Rattle.connection.specs.Answering.{queryRead, rowsOf}
 use Rattle.connection.specs.Outcomes.{itemCount, AnswerNumberMeans, Demand1, PromiseE}
 use Rattle.connection.proofs.InRange.{read-in-range}
-use Rattle.connection.proofs.Shown.{one-kept, of-shown-row, row-of-object, kept-of-tables, tables-keep}
+use Rattle.connection.proofs.Shown.{of-shown-row, row-of-object, kept-of-tables, tables-keep}
 use Rattle.connection.proofs.Connected.{of-connection, connection-has}
 use Rattle.connection.proofs.Fitted.{part-fits, fits-part, answer-fits-query, fits-query-answer}
 use Rattle.connection.proofs.Answered.{answer-rows, answer-ascending, answer-rows-of-kinds, only-answer}

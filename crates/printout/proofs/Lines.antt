@@ -2,19 +2,16 @@
 -- In order: words without spaces, lines, cells of a row, small cells, rows, the head line, answers, refusals.
 -- Assumes nothing.
 use mathlib.Core.Path.{_≡_, refl, sym, ap, ap₂, subst, _∙_}
-use mathlib.Core.Bool.{Bool, true, false, cond, _&&_}
 use mathlib.Core.Logic.{⊎-elim}
 use mathlib.Core.List.{List, [], _∷_, _++_, List·Memᴰ, List·Memᴰ·head, List·Memᴰ·tail, append-assoc, append-nil}
 use Prim.Native.Nat.{ℕ, zero, suc, _+_, _*_, _/_, _%_, _^_, _≤_, _<_}
 use native.Mathlib.Nat.{zero-mul, suc-mul, add-comm, mod-lt, div-add-mod', div-lt-iff-lt-mul}
 use native.Mathlib.Omega.{arith}
 use borrow.Author.Tests as Tests
-use lib.Dec.{eqb, ltb, lit<}
+use lib.Dec.{lit<}
 use lib.ListN.{length, getD, take, drop, length-take, length-drop, List·getD-eq-default}
 use lib.Seq.{take-add, getD-take, getD-drop, length-take-le}
-use Rattle.sets.proofs.Tests.{yes-and}
 use Rattle.sets.proofs.Numbers.{lt-or-le}
-use Rattle.values.specs.Values.{inRange}
 use Rattle.values.proofs.Values.{inRange-lt}
 use Rattle.sorted.specs.Rows.{Row, OfKinds, rowsIn}
 use Rattle.printout.specs.Decimal.{decimal, numberOf, cellText}

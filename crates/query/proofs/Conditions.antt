@@ -10,7 +10,7 @@ use native.Mathlib.Omega.{arith}
 use borrow.Author.Tests.{eqb-true, not-false}
 use lib.Dec.{eqb}
 use lib.ListN.{length}
-use Rattle.sets.proofs.Tests.{yes-no, not-yes, and-yes, yes-and}
+use Rattle.sets.proofs.Tests.{yes-no}
 use Rattle.records.specs.Checks.{firstOf, First}
 use Rattle.records.specs.Records.{kinds, whose, isKind, ofQuery, kindOf}
 use Rattle.records.specs.Walking.{Sound}

@@ -66,6 +66,10 @@ withCell v a operator cell = record {
   cell = cell;
 }
 
+-- the value kind on the right of a comparison, where attributes have these: "a constant has its attribute's kind"
+abbrev pub rightKind : List ℕ → Comparison → ℕ
+rightKind kinds c = elim (c .constant) [ true ↦ getD kinds (c .attribute) 0 | false ↦ getD kinds (c .attribute2) 0 ]
+
 -- "comparison of two", "comparison with a constant": what a record compares
 unfoldable pub comparisonOf : Record → List Comparison
 comparisonOf (Attribute id kind) = []

@@ -2,7 +2,7 @@
 -- paper's order, each with the number that it gives; the first that holds is the fault.
 -- In order: the checks of a record, its fault. Not here: a body that is cut short (`Reading`).
 -- Assumes nothing.
-use mathlib.Core.Bool.{Bool, true, not, _&&_, _||_}
+use mathlib.Core.Bool.{Bool, true, not, _||_}
 use mathlib.Core.List.{List, [], _∷_}
 use Prim.Native.Nat.{ℕ}
 use lib.Dec.{ltb, leb}

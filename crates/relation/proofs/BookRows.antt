@@ -7,7 +7,6 @@ use native.Mathlib.Nat.{lt-of-lt-of-le}
 use native.Mathlib.Omega.{arith}
 use lib.ListN.{length, getD}
 use Rattle.sets.specs.Sets.{_∈_, rank}
-use Rattle.sets.proofs.Bits.{member-lt}
 use Rattle.sets.proofs.Ranks.{rank-lt-count}
 use Rattle.records.specs.Fields.{field}
 use Rattle.relation.specs.Tables.{cellOf}

@@ -4,12 +4,12 @@
 use mathlib.Core.Path.{_≡_, sym, ap, _∙_, subst}
 use mathlib.Core.Logic.{⊎-elim}
 use mathlib.Core.List.{List, List·Memᴰ}
-use Prim.Native.Nat.{ℕ, _≤_, _<_}
+use Prim.Native.Nat.{ℕ, _<_}
 use native.Mathlib.Nat.{lt-trans}
 use native.Mathlib.Omega.{arith}
 use lib.ListN.{length, length-map}
 use Rattle.sets.specs.Sets.{_∈_, _∩_}
-use Rattle.sets.proofs.Numbers.{lt-or-le, eq-or-ne}
+use Rattle.sets.proofs.Numbers.{lt-or-le}
 use Rattle.sets.proofs.Sets.{∩-left}
 use Rattle.reduction.specs.Steps.{Family, NoneTwice, at}
 use Rattle.reduction.specs.Kept.{left, cutTo, kept}

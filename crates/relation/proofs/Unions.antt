@@ -4,18 +4,18 @@
 -- Assumes nothing.
 use mathlib.Core.Path.{_≡_, refl, sym, ap, _∙_, subst}
 use mathlib.Core.Bool.{Bool, true, false}
-use mathlib.Core.Logic.{_⊎_, inl, inr, ⊎-elim, _↔_}
-use mathlib.Core.List.{List, [], _∷_, _++_, map, List·Memᴰ, List·Memᴰ·head, List·Memᴰ·tail, List·Memᴰ·not-nil}
+use mathlib.Core.Logic.{_⊎_, ⊎-elim}
+use mathlib.Core.List.{List, [], _∷_, _++_, List·Memᴰ, List·Memᴰ·head, List·Memᴰ·tail, List·Memᴰ·not-nil}
 use mathlib.Core.List.{List·Memᴰ·append-cases, Memᴰ·append-left, Memᴰ·append-right, Memᴰ·map, Memᴰ·of-map}
-use Prim.Native.Nat.{ℕ, zero, suc, _<_, suc-le-suc}
+use Prim.Native.Nat.{ℕ, suc, _<_, suc-le-suc}
 use native.Mathlib.Nat.{zero-lt-suc}
 use lib.ListN.{length}
-use Rattle.sets.specs.Sets.{_∈_, _⊆_, within}
+use Rattle.sets.specs.Sets.{_⊆_, within}
 use Rattle.sets.proofs.Sets.{yes-within, within-yes}
 use Rattle.reduction.specs.Steps.{Family, NoneTwice}
 use Rattle.reduction.specs.Kept.{union}
 use Rattle.reduction.proofs.Left.{union-⊇, in-union}
-use Rattle.relation.specs.Tables.{Row, cellOf, Table, tableAt, family, project}
+use Rattle.relation.specs.Tables.{Row, Table, tableAt, family, project}
 use Rattle.relation.specs.Joins.{OfTwo, StandFor, none, one, shown, shownRows, unionTable, unions, InUnionJoin}
 use Rattle.relation.specs.Joins.{InSomeChoice}
 use Rattle.relation.proofs.Fitting.{FitsOn, AllFit, Stated, join-assigned, assigned-join}

@@ -6,11 +6,10 @@
 use mathlib.Core.Path.{_≡_}
 use mathlib.Core.Logic.{_⊎_, _↔_}
 use mathlib.Core.List.{List, [], List·Memᴰ}
-use Prim.Native.Nat.{ℕ, _<_}
-use lib.ListN.{length, getD}
-use Rattle.sets.specs.Sets.{_∈_, _∉_, _⊆_, _∩_}
-use Rattle.reduction.specs.Steps.{at, Step, leaves, Complete, NodePermits, CoverPermits}
-use Rattle.relation.specs.Tables.{Row, cellOf, Table, SameRows, tableAt, family, project}
+use Prim.Native.Nat.{ℕ}
+use Rattle.sets.specs.Sets.{_∈_, _∉_, _∩_}
+use Rattle.reduction.specs.Steps.{Step, leaves, Complete, NodePermits, CoverPermits}
+use Rattle.relation.specs.Tables.{Row, cellOf, Table, SameRows, family, project}
 use Rattle.relation.specs.Joins.{AgreePairwise, NoneMissing, Picked, Matching, InJoin, InFullJoin, StandFor}
 use Rattle.relation.specs.Joins.{keptSets}
 use Rattle.relation.specs.Joins.{InKeptJoin, InUnionJoin, InPart, InSomeChoice}

@@ -4,7 +4,7 @@
 use mathlib.Core.Path.{_≡_, refl, sym, ap, _∙_, subst}
 use mathlib.Core.Bool.{true}
 use mathlib.Core.Logic.{inl}
-use mathlib.Core.List.{List, [], _∷_, _++_, map, List·Memᴰ}
+use mathlib.Core.List.{List, [], _∷_, _++_, map}
 use Prim.Native.Nat.{ℕ, zero, suc, _+_, _*_, _≤_, _<_, _^_}
 use native.Mathlib.Nat.{not-suc-le-zero, le-of-suc-le-suc, mul-le-mul-left}
 use native.Mathlib.Omega.{arith}
@@ -23,7 +23,7 @@ use Rattle.query.specs.Asking.{itemsOf}
 use Rattle.query.specs.Accepting.{answered}
 use Rattle.query.proofs.Theorems as Queries
 use Rattle.sorted.specs.Rows.{rowsIn}
-use Rattle.connection.specs.Answers.{kindOf, itemKinds, answerRows}
+use Rattle.connection.specs.Answers.{kindOf, itemKinds}
 use Rattle.connection.specs.Answering.{queryRead, rowsOf, number, spaceAfter}
 use Rattle.connection.specs.Outcomes.{Good, MoreSerials, itemCount, cellsNeeded}
 use Rattle.connection.proofs.Theorems.{names-in-range, answer-in-range, answer-number-means, demand1}

@@ -2,7 +2,7 @@
 -- In order: a text that has room, the opening, the value kinds of the items, a step that is refused, one that is
 -- answered.
 -- Assumes nothing.
-use mathlib.Core.Path.{_≡_, refl, sym, ap, ap₂, _∙_, subst}
+use mathlib.Core.Path.{_≡_, refl, sym, ap, ap₂, _∙_}
 use mathlib.Core.Bool.{Bool, true, false}
 use mathlib.Core.Logic.{⊎-elim}
 use mathlib.Core.List.{List, [], _++_, map}
@@ -17,7 +17,6 @@ use Rattle.book.specs.Reading.{read, bookOf}
 use Rattle.query.specs.declared.Query.{Query}
 use Rattle.query.specs.declared.QueryItem.{QueryItem}
 use Rattle.query.specs.declared.Asked.{Asked}
-use Rattle.query.specs.Asking.{itemsOf, askedOf}
 use Rattle.query.specs.Reading as Querying
 use Rattle.scheme.specs.declared.Scheme.{Scheme}
 use Rattle.terms.specs.declared.Terms.{Terms}
@@ -28,7 +27,7 @@ use Rattle.connection.specs.Answering.{queryRead, rowsOf, number, refused, answ
 use Rattle.connection.proofs.Theorems.{answer-number-means}
 use Rattle.answer.proofs.Asked.{query-asks}
 use Rattle.answer.proofs.Returning.{number-is, scheme-is, query-number, asked-is, asked-ready}
-use Rattle.printout.specs.Lines.{answerText, bookRefused, queryRefused}
+use Rattle.printout.specs.Lines.{bookRefused, queryRefused}
 use Rattle.printout.specs.Printing.{printed, after, answerPrinted, afterAnswer}
 use Rattle.printout.specs.declared.Printed.{Printed}
 use Rattle.printout.proofs.Theorems.{text-printed, answer-printed, room-enough}

@@ -4,12 +4,12 @@
 use mathlib.Core.Path.{_≡_}
 use mathlib.Core.Bool.{true, false}
 use mathlib.Core.List.{List, [], _∷_, _++_}
-use Prim.Native.Nat.{ℕ, _+_, _*_, _≤_, _<_, _^_}
+use Prim.Native.Nat.{ℕ, _+_, _≤_, _<_, _^_}
 use lib.ListN.{length, drop}
 use Rattle.book.specs.Reading.{read}
 use Rattle.connection.specs.Answering.{queryRead, rowsOf, spaceAfter}
-use Rattle.printout.specs.Lines.{answerText, bookRefused, queryRefused, FitToPrint}
-use Rattle.run.specs.Running.{numberOf, kindsOf, fullText, textOf, openingText, printout, openingOf, stepOf}
+use Rattle.printout.specs.Lines.{answerText, FitToPrint}
+use Rattle.run.specs.Running.{kindsOf, fullText, textOf, openingText, printout, openingOf, stepOf}
 
 -- ---- one query
 

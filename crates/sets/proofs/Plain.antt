@@ -2,17 +2,17 @@
 -- In order: one attribute, all attributes below a width, agreement, the loop.
 -- Assumes nothing.
 use mathlib.Core.Path.{_≡_, refl, sym, ap, _∙_, subst}
-use mathlib.Core.Bool.{Bool, true, false, not, _&&_, _||_}
+use mathlib.Core.Bool.{true, false, not, _||_}
 use mathlib.Core.Logic.{⊎-elim}
 use Prim.Native.Nat.{ℕ, zero, suc, _+_, _^_, _≤_, _<_}
 use native.Mathlib.Nat.{le-antisymm}
 use native.Mathlib.Numerals.{add-one}
 use native.Mathlib.Omega.{arith}
-use Rattle.sets.specs.Sets.{_∈_, has, _⊆_, within, withinEach}
+use Rattle.sets.specs.Sets.{_∈_, has, within, withinEach}
 use Rattle.sets.proofs.Numbers.{eq-or-ne}
-use Rattle.sets.proofs.Bits.{member-or-not, member-lt, in-out}
+use Rattle.sets.proofs.Bits.{member-or-not, member-lt}
 use Rattle.sets.proofs.Tests.{yes-or-no, yes-no, not-yes, and-yes, yes-and, or-left, or-right, yes-or}
-use Rattle.sets.proofs.Sets.{has-yes, has-no, yes-has, no-has, within-yes, yes-within, no-within}
+use Rattle.sets.proofs.Sets.{has-yes, has-no, yes-has, yes-within, no-within}
 
 -- ---- one attribute
 

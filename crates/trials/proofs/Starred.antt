@@ -48,7 +48,7 @@ use Rattle.book.specs.TablesOf as Tables
 use Rattle.book.specs.TablesOf.{tablesOf}
 use Rattle.sorted.specs.Rows.{lessRow, insertRow, insertRows}
 use Rattle.connection.specs.Connection.{parts, connection}
-use Rattle.connection.specs.Answers.{itemCells, rightCell, rightKind, isTrue, allTrue, cellsOf, rowsFor}
+use Rattle.connection.specs.Answers.{itemCells, rightCell, isTrue, allTrue, cellsOf, rowsFor}
 use Rattle.connection.specs.Answers.{inFront, choices}
 use Rattle.connection.specs.Answers.{itemKinds, answerRows}
 use Rattle.connection.specs.Answers as Answers
@@ -237,7 +237,7 @@ all-hold :
 unfolding gapRuns noted noting gaps datedRuns asked club dated refused keepsRules entryKeeps everyBelow mirrored
     withTable runs run apart first second twelve stopped output queries printout answers answersWithin fullText headLine
     rowLines cellTexts line behind bookRefused queryRefused cellText valueText integerText decimal decimalWithin number
-    spaceNumber rowsOf answerRows itemKinds choices inFront rowsFor cellsOf allTrue isTrue rightKind rightCell itemCells
+    spaceNumber rowsOf answerRows itemKinds choices inFront rowsFor cellsOf allTrue isTrue rightCell itemCells
     Answers.rowsOf connection parts insertRows insertRow lessRow tablesOf Tables.rowsOf Tables.rowOf Tables.cellsOf part
     joinRows goingOn eachPassing matchesAll rowsMatch allPass shownRows together project projected holds compares
     matches lessCell valueOf signed refusal Query.read atEnd wholeNumber someUnconnected unconnected isNil containing

@@ -1,6 +1,6 @@
 -- `host::vingarbu_kinds` meets its contract: there is no room for the result, or the kinds are given as bytes.
 -- Assumes nothing.
-use mathlib.Core.Path.{_≡_, ap, sym, _∙_}
+use mathlib.Core.Path.{ap, sym, _∙_}
 use mathlib.Core.List.{List}
 use Prim.Native.Nat.{ℕ}
 use native.Mathlib.Omega.{arith}

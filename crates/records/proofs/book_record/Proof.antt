@@ -3,7 +3,7 @@
 use Rattle.records.proofs.Records.{attribute-at, object-at, dependency-at, declared-at, removed-at}
 use Rattle.records.proofs.Records.{onlyDeclared-at, last-of-book}
 use Rattle.records.specs.Records.{bodyLength, kinds}
-use mathlib.Core.Path.{_≡_, ap}
+use mathlib.Core.Path.{ap}
 use native.Mathlib.Omega.{arith}
 use borrow.Author.Needs.{needs}
 use Rattle.records.proofs.book_record.Statement.{statement}

@@ -1,7 +1,6 @@
 -- `records::of_query` meets its contract: it is the definition.
 -- Assumes nothing.
 use mathlib.Core.Path.{ap}
-use mathlib.Core.Bool.{not}
 use Prim.Native.Nat.{ℕ}
 use lib.Dec.{eqb}
 use Rattle.records.specs.Records.{isKind, ofBook, ofQuery}

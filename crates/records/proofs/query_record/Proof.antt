@@ -3,7 +3,7 @@
 use Rattle.records.proofs.Records.{item-at, compareTwo-at, compareConstant-at, end-at}
 use Rattle.records.proofs.Records.{last-of-query}
 use Rattle.records.specs.Records.{bodyLength, kinds}
-use mathlib.Core.Path.{_≡_, ap}
+use mathlib.Core.Path.{ap}
 use native.Mathlib.Omega.{arith}
 use borrow.Author.Needs.{needs}
 use Rattle.records.proofs.query_record.Statement.{statement}

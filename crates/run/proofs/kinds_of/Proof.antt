@@ -3,7 +3,6 @@
 use mathlib.Core.Path.{sym}
 use Rattle.answer.proofs.Returning.{maximal-long, kinds-long}
 use Rattle.run.proofs.Returns.{asked-good, kinds-found}
-use borrow.Author.Needs.{needs}
 use Rattle.run.proofs.kinds_of.Statement.{statement}
 use Rattle.run.proofs.kinds_of.Tie as tie
 

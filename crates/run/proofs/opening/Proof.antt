@@ -2,7 +2,6 @@
 -- Assumes nothing.
 use Rattle.run.proofs.Returns.{opens-book, opens-long, opens-run}
 use native.Mathlib.Omega.{arith}
-use mathlib.Core.Path.{sym}
 use borrow.Author.Needs.{needs}
 use Rattle.run.proofs.opening.Statement.{statement}
 use Rattle.run.proofs.opening.Tie as tie

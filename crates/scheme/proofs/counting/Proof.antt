@@ -1,6 +1,6 @@
 -- `scheme::counting` meets its contract, by cases.
 -- Assumes nothing.
-use mathlib.Core.Path.{refl, sym, ap}
+use mathlib.Core.Path.{sym, ap}
 use mathlib.Core.Bool.{Bool}
 use Rattle.scheme.specs.OfScheme.{countingOf}
 use Rattle.scheme.proofs.counting.Statement.{statement}

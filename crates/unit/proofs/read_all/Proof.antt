@@ -1,8 +1,7 @@
 -- `unit::read_all` meets its contract. The invariant: the bytes read are within the buffer, whose length stays. The
 -- measure: the turns left. Assumes nothing.
-use mathlib.Core.Path.{_≡_, refl}
+use mathlib.Core.Path.{_≡_}
 use Prim.Native.Nat.{_≤_}
-use native.Mathlib.Omega.{arith}
 use lib.ListN.{length}
 use borrow.Author.Needs.{needs}
 use Rattle.unit.proofs.read_all.Statement.{statement}
