@@ -6,7 +6,31 @@
 #include <stdlib.h>
 #include <string.h>
 
-enum { CALLS = 100000, GUARD = 4, CELLS = 40, LONGEST = 600, BEHIND = 12 };
+enum { CALLS = 100000, GUARD = 4, CELLS = 40, LONGEST = 600, EXTRA = 26 };
+
+/* Records to put behind a book or in front of a query. */
+struct extra {
+    size_t length;
+    uint8_t bytes[EXTRA];
+};
+
+/* Kinds 14, 5 and 6; rows of the paper's book with missing cells. */
+static const struct extra behind_book[] = {
+    {12, {14, 5, 1, 0, 0, 0, 14, 6, 7, 0, 0, 0}},
+    {6, {14, 5, 7, 0, 0, 0}},
+    {26, {4, 0, 255, 255, 255, 255, 255, 255, 255, 255}},
+    {26, {4, 1, 10, 0, 0, 0, 255, 255, 255, 255}},
+    {26, {4, 2, 255, 255, 255, 255, 0, 0, 0, 128}},
+};
+
+/* As many items as a query may have; an operator that is not allowed; constants that are missing, or nearly. */
+static const struct extra front_of_query[] = {
+    {24, {7, 0, 0, 7, 0, 0, 7, 0, 0, 7, 0, 0, 7, 0, 0, 7, 0, 0, 7, 0, 0, 7, 0, 0}},
+    {8, {9, 0, 1, 2, 245, 1, 0, 0}},
+    {8, {9, 0, 1, 0, 255, 255, 255, 255}},
+    {8, {9, 0, 3, 1, 0, 0, 0, 128}},
+    {8, {9, 0, 3, 5, 1, 0, 0, 128}},
+};
 
 static uint64_t seed, state;
 
@@ -27,10 +51,10 @@ static void fail(const char *what, unsigned long call) {
 /* Numbers of refusals: 8 and 15 to 19 are none. */
 static int is_refusal(uint64_t n) { return (n >= 1 && n <= 14 && n != 8) || n == 20 || n == VINGARBU_REFUSALS; }
 
-/* Random bytes, none zero; or a part of good bytes, cut off and changed in a few places; or good bytes with records
- * of kinds 14, 5 and 6 behind them; or nothing. */
-static size_t damage(uint8_t *to, const uint8_t *good, size_t length) {
-    static const uint8_t behind[BEHIND] = {14, 5, 1, 0, 0, 0, 14, 6, 7, 0, 0, 0};
+/* Random bytes, none zero; or a part of good bytes, cut off and changed in a few places; or good bytes with one of some
+ * records behind or in front of them, cut off in them or whole; or nothing. */
+static size_t damage(uint8_t *to, const uint8_t *good, size_t length, const struct extra *extras, size_t count,
+                     int in_front) {
     size_t n = 0;
     switch (below(7)) {
     case 0: return 0;
@@ -38,11 +62,12 @@ static size_t damage(uint8_t *to, const uint8_t *good, size_t length) {
         n = below(LONGEST);
         for (size_t i = 0; i < n; i++) to[i] = (uint8_t)(1 + below(255));
         return n;
-    case 2:
-        n = below(7);
-        memcpy(to, good, length);
-        memcpy(to + length, behind + n, BEHIND - n);
-        return length + below(BEHIND - n + 1);
+    case 2: {
+        const struct extra *e = &extras[below(count)];
+        memcpy(to + (in_front ? 0 : length), e->bytes, e->length);
+        memcpy(to + (in_front ? e->length : 0), good, length);
+        return below(2) ? length + e->length : below(length + e->length + 1);
+    }
     default:
         memcpy(to, good, length);
         n = below(4) ? length : below(length + 1);
@@ -54,7 +79,7 @@ static size_t damage(uint8_t *to, const uint8_t *good, size_t length) {
 static size_t read_file(const char *name, uint8_t *bytes) {
     FILE *file = fopen(name, "rb");
     if (file == NULL) exit(2);
-    size_t length = fread(bytes, 1, LONGEST - BEHIND, file);
+    size_t length = fread(bytes, 1, LONGEST - EXTRA, file);
     fclose(file);
     return length;
 }
@@ -74,7 +99,8 @@ static void look(const uint32_t *before, const uint32_t *now, size_t n, const ui
 }
 
 int main(int argc, char **argv) {
-    static uint8_t good_book[LONGEST], good_query[LONGEST], book[LONGEST], query[LONGEST], text[LONGEST], old[LONGEST];
+    static uint8_t good_book[LONGEST], good_query[LONGEST], text[LONGEST], old[LONGEST];
+    static uint8_t book[VINGARBU_BYTES + 1], query[VINGARBU_BYTES + 1];
     static unsigned long numbers[VINGARBU_REFUSALS + 1], statuses[3];
     if (argc < 3) return 2;
     size_t book_length = read_file(argv[1], good_book), query_length = read_file(argv[2], good_query);
@@ -83,7 +109,11 @@ int main(int argc, char **argv) {
         uint32_t space[CELLS + 2 * GUARD], before[CELLS + 2 * GUARD];
         uint64_t results[6], marks[6], items, printed = 7;
         uint8_t kinds[8];
-        size_t b = damage(book, good_book, book_length), q = damage(query, good_query, query_length);
+        size_t b = damage(book, good_book, book_length, behind_book, sizeof behind_book / sizeof *behind_book, 0);
+        size_t q = damage(query, good_query, query_length, front_of_query,
+                          sizeof front_of_query / sizeof *front_of_query, 1);
+        if (below(1000) == 0) b = VINGARBU_BYTES + below(2);
+        if (below(1000) == 0) q = VINGARBU_BYTES + below(2);
         size_t n = below(CELLS + 1), results_length = below(8) ? 4 + below(3) : below(4);
         uint32_t serial = (uint32_t[]){0, 1, 4294967294u, 4294967295u, (uint32_t)next()}[below(5)];
         for (size_t i = 0; i < CELLS + 2 * GUARD; i++) space[i] = before[i] = (uint32_t)next() | 1;
