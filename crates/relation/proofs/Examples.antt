@@ -1,24 +1,29 @@
 -- Worked examples: the paper's printout and what its tables show, each as what the definitions give beside what is
 -- expected.
--- In order: the tables, kept sets and joins, the objects that may stand, tables that agree and tables that do not.
+-- In order: the tables, kept sets and joins, the objects that may stand, tables that agree and tables that do not,
+-- missing cells among them.
 -- Assumes nothing.
-use mathlib.Core.Path.{_≡_, refl, sym, subst₂}
+use mathlib.Core.Path.{_≡_, refl, sym, subst, subst₂}
+use mathlib.Core.Bool.{false}
+use mathlib.Core.Logic.{_↔_}
 use mathlib.Core.List.{List, [], _∷_, map, List·Memᴰ, List·Memᴰ·head, List·Memᴰ·tail, List·Memᴰ·not-nil}
 use mathlib.Core.List.{head-eq-of-cons-eq}
 use Prim.Native.Nat.{ℕ, _^_, _<_}
 use native.Mathlib.Omega.{arith}
 use lib.Dec.{lit<}
-use Rattle.sets.specs.Sets.{_⊆_, bit, has, within, _∩_, _∪_, single, isEmpty, rank, members}
-use Rattle.sets.proofs.Sets.{yes-within}
+use lib.ListN.{getD}
+use Rattle.sets.specs.Sets.{_∈_, _⊆_, bit, has, within, _∩_, _∪_, single, isEmpty, rank, members}
+use Rattle.sets.proofs.Sets.{∩-in, in-single, yes-within}
 use Rattle.values.specs.Values.{missing, matches}
+use Rattle.reduction.specs.Steps.{at}
 use Rattle.reduction.specs.Kept.{union, around, someHolds, removable, stays, staying, settle, left}
 use Rattle.reduction.specs.Kept.{goesFor, goes, keeps, keptOf, kept}
 use Rattle.reduction.specs.Statements.{OfAttributes}
 use Rattle.relation.specs.Tables.{Row, cellOf, Table, SameRows, family, projected, project}
-use Rattle.relation.specs.Joins.{AgreePairwise, together, InFullJoin, StandFor, none, one, shown, keptSets}
-use Rattle.relation.specs.Joins.{shownRows, InPart}
+use Rattle.relation.specs.Joins.{AgreePairwise, OfTwo, NoneMissing, together, InFullJoin, StandFor, none, one}
+use Rattle.relation.specs.Joins.{shown, keptSets, shownRows, InPart}
 use Rattle.relation.specs.Computed.{allPass, rowsMatch, matchesAll, eachPassing, goingOn, joinRows, part}
-use Rattle.relation.proofs.Theorems.{join-computed, part-computed}
+use Rattle.relation.proofs.Theorems.{join-computed, part-computed, part-holds}
 
 -- ---- the tables
 
@@ -61,6 +66,16 @@ tripOnly = record { set = 5; rows = (4294967295 ∷ 7 ∷ []) ∷ [] }
 
 unfoldable pub gap : List Table
 gap = leadOnly ∷ tripOnly ∷ []
+
+-- a lead of a station whose depth nobody measured: DEPTH is an attribute of one object
+abbrev pub lead : Table
+lead = record { set = 3; rows = (10 ∷ 501 ∷ []) ∷ [] }
+
+abbrev pub noDepth : Table
+noDepth = record { set = 9; rows = (10 ∷ 2147483648 ∷ []) ∷ [] }
+
+unfoldable pub ownGap : List Table
+ownGap = lead ∷ noDepth ∷ []
 
 -- ---- kept sets and joins
 
@@ -113,12 +128,14 @@ trials =
     ∷ record { gives = joinRows kinds gap 2; says = [] }
     -- a missing cell under an attribute of one object
     ∷ record { gives = part kinds (leadOnly ∷ []) 3; says = (4294967295 ∷ 501 ∷ []) ∷ [] }
+    ∷ record { gives = part kinds ownGap 10; says = (501 ∷ 2147483648 ∷ []) ∷ [] }
+    ∷ record { gives = joinRows kinds ownGap 10; says = (501 ∷ 2147483648 ∷ []) ∷ [] }
     ∷ []
 
 pub trials-hold : map (λ t. t .gives) trials ≡ map (λ t. t .says) trials
-unfolding trials survey paired apart gap kinds missing part joinRows goingOn eachPassing matchesAll rowsMatch allPass
-    together shown project projected cellOf shownRows kept keptOf keeps goes goesFor left settle staying stays removable
-    someHolds around union bit has within _∩_ _∪_ single isEmpty rank members matches
+unfolding trials survey paired apart gap ownGap kinds missing part joinRows goingOn eachPassing matchesAll rowsMatch
+    allPass together shown project projected cellOf shownRows kept keptOf keeps goes goesFor left settle staying stays
+    removable someHolds around union bit has within _∩_ _∪_ single isEmpty rank members matches
 trials-hold = refl
 
 -- ---- the objects that may stand
@@ -156,6 +173,27 @@ two-agree T U tu ut = record { shared = shared }
     shared V₁ V₂ (List·Memᴰ·head p) (List·Memᴰ·tail (List·Memᴰ·tail n)) = absurd (List·Memᴰ·not-nil n)
     shared V₁ V₂ (List·Memᴰ·tail (List·Memᴰ·head p)) (List·Memᴰ·tail (List·Memᴰ·tail n)) = absurd (List·Memᴰ·not-nil n)
 
+-- an attribute of two of two sets is one that they share
+shared-of-two : {S U a : ℕ} → OfTwo (S ∷ U ∷ []) a → a ∈ S ∩ U
+shared-of-two {S} {U} {a} w =
+    ∩-in (subst (λ (i : ℕ). a ∈ at (S ∷ U ∷ []) i) first (w .inFirst))
+    (subst (λ (i : ℕ). a ∈ at (S ∷ U ∷ []) i) second (w .inSecond))
+  where
+    first : w .first ≡ 0
+    first = omega (arith, w .before, w .there)
+
+    second : w .second ≡ 1
+    second = omega (arith, w .before, w .there)
+
+-- two sets of attributes
+two-bounded : {S U : ℕ} → S < 2 ^ 32 → U < 2 ^ 32 → OfAttributes (S ∷ U ∷ [])
+two-bounded {S} {U} p q = record { bounded = low }
+  where
+    low : (s : ℕ) → List·Memᴰ s (S ∷ U ∷ []) → s < 2 ^ 32
+    low s (List·Memᴰ·head e) = omega (arith, e, p)
+    low s (List·Memᴰ·tail (List·Memᴰ·head e)) = omega (arith, e, q)
+    low s (List·Memᴰ·tail (List·Memᴰ·tail m)) = absurd (List·Memᴰ·not-nil m)
+
 -- on the station the leads and the trips of `paired` show the same rows
 pub paired-agree : AgreePairwise paired
 unfolding paired project projected cellOf rank members has bit _∩_
@@ -184,12 +222,44 @@ gap-adds-a-row same =
     inside = yes-within 2 7 refl
 
     bounded : OfAttributes (family gap)
-    bounded = record { bounded = low }
-      where
-        low : (s : ℕ) → List·Memᴰ s (3 ∷ 5 ∷ []) → s < 2 ^ 32
-        low s (List·Memᴰ·head e) = omega (arith, e)
-        low s (List·Memᴰ·tail (List·Memᴰ·head e)) = omega (arith, e)
-        low s (List·Memᴰ·tail (List·Memᴰ·tail m)) = absurd (List·Memᴰ·not-nil m)
+    bounded = two-bounded (lit< tt) (lit< tt)
+
+-- a missing cell under an attribute of one object is none "under an attribute of two of its objects": the tables agree,
+-- the premise holds, and M's part is the full join
+pub own-gap-agrees : AgreePairwise ownGap
+unfolding ownGap project projected cellOf rank members has bit _∩_
+own-gap-agrees =
+    two-agree lead noDepth (record { firstInSecond = λ row m. m; secondInFirst = λ row m. m })
+    (record { firstInSecond = λ row m. m; secondInFirst = λ row m. m })
+
+pub own-gap-none-missing : NoneMissing kinds ownGap
+unfolding ownGap kinds missing cellOf rank _∩_ single
+own-gap-none-missing = record {
+  stated = λ a w T m i row r.
+      let e : a ≡ 0 = in-single (shared-of-two w) in
+      subst (λ (b : ℕ). missing (getD kinds b 0) (cellOf (T .set) row b) ≡ false) (sym e) (station T m row r);
+}
+  where
+    -- a cell of STATION, the one attribute of both
+    Noted : ℕ → Row → Type 0
+    Noted S row = missing (getD kinds 0 0) (cellOf S row 0) ≡ false
+
+    only : (S : ℕ) {x : Row} → Noted S x → (row : Row) → List·Memᴰ row (x ∷ []) → Noted S row
+    only S y row (List·Memᴰ·head e) = subst (Noted S) (sym e) y
+    only S y row (List·Memᴰ·tail m) = absurd (List·Memᴰ·not-nil m)
+
+    station : (T : Table) → List·Memᴰ T ownGap → (row : Row) → List·Memᴰ row (T .rows) → Noted (T .set) row
+    station T (List·Memᴰ·head e) =
+        subst (λ (U : Table). (row : Row) → List·Memᴰ row (U .rows) → Noted (U .set) row) (sym e) (only 3 refl)
+    station T (List·Memᴰ·tail (List·Memᴰ·head e)) =
+        subst (λ (U : Table). (row : Row) → List·Memᴰ row (U .rows) → Noted (U .set) row) (sym e) (only 9 refl)
+    station T (List·Memᴰ·tail (List·Memᴰ·tail m)) = absurd (List·Memᴰ·not-nil m)
+
+pub own-gap-equal : (row : Row) → InFullJoin kinds ownGap 10 row ↔ InPart kinds ownGap 10 row
+unfolding ownGap union bit _∪_ within
+own-gap-equal =
+    part-holds kinds ownGap 10 (two-bounded (lit< tt) (lit< tt)) (yes-within 10 11 refl) (1, record { isOne = refl })
+    .equal own-gap-agrees own-gap-none-missing
 
 -- the survey has a lead at station 12 and no trip there
 pub survey-disagrees : AgreePairwise survey → ⊥

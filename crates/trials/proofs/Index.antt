@@ -132,6 +132,7 @@ use Rattle.book.proofs.Theorems.{maximal-objects-read, tables-of-book, maximal-
 use Rattle.book.proofs.Examples.{trials-hold as book-trials-hold, layouts-hold}
 use Rattle.relation.proofs.Examples.{trials-hold, each-may-stand, paired-agree, survey-disagrees, empty-tables-agree}
 use Rattle.relation.proofs.Examples.{leads-and-no-trips-disagree, apart-disagrees, gap-agrees, gap-adds-a-row}
+use Rattle.relation.proofs.Examples.{own-gap-agrees, own-gap-none-missing, own-gap-equal}
 use Rattle.query.proofs.Theorems as Queries
 use Rattle.query.proofs.Theorems.{records-ask, containing-is-the-list, accepted-fits}
 use Rattle.query.proofs.Examples.{trials-hold as query-trials-hold}
