@@ -105,6 +105,8 @@ def cases():  # name, book, query, SQL; another SQL for the rows alone, where th
     rising = Book([DATE, DATE], [[0, 1]], [], [[(i, i) for i in shuffled(60)]])
     for of, v in ('first', 0), ('last', 3):
         yield f'the same with no answer, item of the {of}', rising, items(v, 0) + ring + END, sql.format(v)
+    yield ('one row of 2,500 by a constant', Book([NAME, NAME], [[0, 1]], [], [pairs(2500)]),
+           items(0, 1) + compare_constant(0, 0, EQUAL, 77) + END, 'select distinct a1 from t0 where a0 = 77')
 
 def seconds(data, runs=RUNS):  # the unit's best time of some runs on this input, or None where the limit ends one
     best = LIMIT
