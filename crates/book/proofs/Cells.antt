@@ -14,8 +14,8 @@ use lib.ListN.{length, getD, drop, drop-of-length-le}
 use lib.Seq.{drop-cons}
 use Rattle.sets.specs.Sets.{has, rank, count}
 use Rattle.sets.proofs.Tests.{and-yes, or-left, or-right, or-no}
-use Rattle.sets.proofs.Sets.{yes-has, no-has}
-use Rattle.sets.proofs.Ranks.{rank-lt, rank-suc-in, rank-suc-out}
+use Rattle.sets.proofs.Sets.{yes-has}
+use Rattle.sets.proofs.Ranks.{rank-lt}
 use Rattle.values.specs.Values.{inRange}
 use Rattle.relation.specs.Tables.{cellOf}
 use Rattle.book.specs.Faults.{someNonZero, someOutside, wrongCells}
@@ -53,21 +53,21 @@ zero-end {cells} {i = i} v h =
 
 -- ---- cells outside their range
 
--- no attribute of the set below a has one, and place is the place of the next cell
-pub record InsideSoFar (kinds : List ℕ) (set : ℕ) (cells : List ℕ) (place a : ℕ) : Type 0 where
+-- no attribute of the set below a has one
+pub record InsideSoFar (kinds : List ℕ) (set : ℕ) (cells : List ℕ) (a : ℕ) : Type 0 where
   pub inside : a ≤ 32
-  pub placed : place ≡ rank set a
   pub none : someOutside kinds set cells a ≡ false
 
-pub inside-start : (kinds : List ℕ) (set : ℕ) (cells : List ℕ) → InsideSoFar kinds set cells 0 0
-unfolding someOutside rank
-inside-start kinds set cells = record { inside = omega arith; placed = refl; none = refl }
+pub inside-start : (kinds : List ℕ) (set : ℕ) (cells : List ℕ) → InsideSoFar kinds set cells 0
+unfolding someOutside
+inside-start kinds set cells = record { inside = omega arith; none = refl }
 
-module _ {kinds : List ℕ} {set : ℕ} {cells : List ℕ} {place a : ℕ} (v : InsideSoFar kinds set cells place a)
-    (h : a < 32) where
-  pub place-in-row : count 32 set ≤ 6 → has set a ≡ true → place < 6
-  place-in-row few y = omega (arith, rank-lt (yes-has set a y) h, v .placed)
+-- a member of a set of six at most has one of six places
+pub place-in-row : (set a : ℕ) {place : ℕ} → count 32 set ≤ 6 → a < 32 → has set a ≡ true → place ≡ rank set a
+    → place < 6
+place-in-row set a few h y e = omega (arith, rank-lt (yes-has set a y) h, e)
 
+module _ {kinds : List ℕ} {set : ℕ} {cells : List ℕ} {a : ℕ} (v : InsideSoFar kinds set cells a) (h : a < 32) where
   -- once one is outside, one is
   outside-on : someOutside kinds set cells (suc a) ≡ true → true ≡ someOutside kinds set cells 32
   unfolding someOutside
@@ -76,43 +76,39 @@ module _ {kinds : List ℕ} {set : ℕ} {cells : List ℕ} {place a : ℕ} (v : 
       (λ m l e. or-left (has set m && not (inRange (getD kinds m 0) (cellOf set cells m))) e) 32 h)
 
   -- the cell of a is the one at its place
-  cell-here : {r : Bool} → r ≡ inRange (getD kinds a 0) (getD cells place 0) → inRange (getD kinds a 0) (cellOf set
-      cells a) ≡ r
+  cell-here : {place : ℕ} {r : Bool} → place ≡ rank set a → r ≡ inRange (getD kinds a 0) (getD cells place 0)
+      → inRange (getD kinds a 0) (cellOf set cells a) ≡ r
   unfolding cellOf
-  cell-here e = ap (λ (k : ℕ). inRange (getD kinds a 0) (getD cells k 0)) (sym (v .placed)) ∙ sym e
+  cell-here p e = ap (λ (k : ℕ). inRange (getD kinds a 0) (getD cells k 0)) (sym p) ∙ sym e
 
-  pub outside-here : {r : Bool} → has set a ≡ true → r ≡ inRange (getD kinds a 0) (getD cells place 0) → not r ≡ true
-      → true ≡ someOutside kinds set cells 32
+  pub outside-here : {place : ℕ} {r : Bool} → has set a ≡ true → place ≡ rank set a
+      → r ≡ inRange (getD kinds a 0) (getD cells place 0) → not r ≡ true → true ≡ someOutside kinds set cells 32
   unfolding someOutside
-  outside-here y e n =
-      outside-on (or-right (someOutside kinds set cells a) (and-yes y (ap not (cell-here e) ∙ n)))
+  outside-here y p e n =
+      outside-on (or-right (someOutside kinds set cells a) (and-yes y (ap not (cell-here p e) ∙ n)))
 
-  pub inside-with : {r : Bool} (p : ℕ) → has set a ≡ true → r ≡ inRange (getD kinds a 0) (getD cells place 0)
-      → not r ≡ false → p ≡ place + 1 → InsideSoFar kinds set cells p (a + 1)
+  pub inside-with : {place : ℕ} {r : Bool} → has set a ≡ true → place ≡ rank set a
+      → r ≡ inRange (getD kinds a 0) (getD cells place 0) → not r ≡ false → InsideSoFar kinds set cells (a + 1)
   unfolding someOutside
-  inside-with p y e n q = record {
+  inside-with y p e n = record {
     inside = add-one-le h;
-    placed = q ∙ add-one place ∙ ap suc (v .placed) ∙ sym (rank-suc-in (yes-has set a y)) ∙ ap (rank set) (sym
-        (add-one a));
     none =
         ap (someOutside kinds set cells) (add-one a)
-        ∙ or-no (v .none) (ap₂ (λ (b c : Bool). b && c) y (ap not (cell-here e) ∙ n));
+        ∙ or-no (v .none) (ap₂ (λ (b c : Bool). b && c) y (ap not (cell-here p e) ∙ n));
   }
 
-  pub inside-past : (p : ℕ) → has set a ≡ false → p ≡ place → InsideSoFar kinds set cells p (a + 1)
+  pub inside-past : has set a ≡ false → InsideSoFar kinds set cells (a + 1)
   unfolding someOutside
-  inside-past p n q = record {
+  inside-past n = record {
     inside = add-one-le h;
-    placed = q ∙ v .placed ∙ sym (rank-suc-out (no-has set a n)) ∙ ap (rank set) (sym (add-one a));
     none =
         ap (someOutside kinds set cells) (add-one a)
         ∙ or-no (v .none) (ap (λ (b : Bool). b && not (inRange (getD kinds a 0) (cellOf set cells a))) n);
   }
 
-pub inside-end : {kinds : List ℕ} {set : ℕ} {cells : List ℕ} {place a : ℕ} → InsideSoFar kinds set cells place a → 32
-    ≤ a
+pub inside-end : {kinds : List ℕ} {set : ℕ} {cells : List ℕ} {a : ℕ} → InsideSoFar kinds set cells a → 32 ≤ a
     → false ≡ someOutside kinds set cells 32
-inside-end {kinds} {set} {cells} {place} {a} v h =
+inside-end {kinds} {set} {cells} {a} v h =
     let e : a ≡ 32 = omega arith in
     sym (v .none) ∙ ap (someOutside kinds set cells) e
 

@@ -1,11 +1,12 @@
 -- Worked examples: what reading gives beside what the paper says, in one list under one theorem.
--- In order: the unit's book, three objects in a ring, comparison tables, small books, the trials, what books declare,
--- tables.
+-- In order: the unit's book, three objects in a ring, comparison tables, small books, the trials, bounds, what books
+-- declare, tables.
 -- Assumes nothing.
 use mathlib.Core.Path.{_≡_, refl}
+use mathlib.Core.Bool.{false}
 use mathlib.Core.List.{List, [], _∷_, _++_, map, flatMap}
 use Prim.Native.Nat.{ℕ}
-use lib.ListN.{length, take}
+use lib.ListN.{length, take, replicate}
 use Rattle.sets.specs.Sets.{bit, has, within, _∩_, _∪_, _∖_, single, isEmpty, rank, members}
 use Rattle.values.specs.Values.{missing, inRange}
 use Rattle.values.specs.Table.{builtIn, mirrored, entryKeeps, everyBelow, keepsRules}
@@ -149,6 +150,54 @@ unfolding trials survey ring angles eight asBuiltIn ofClub result read afterLast
     whose kinds field value bytes keptOf keeps goes goesFor acyclic left settle staying stays removable someHolds around
     union missing inRange members rank isEmpty single _∖_ _∪_ _∩_ within has bit
 trials-hold = refl
+
+-- ---- bounds: "64 dependencies; 8 records of kind 5 and 8 of kind 6"; "attribute, id 0..31"; "object 0..31"; "An
+-- object has one to six attributes."; request 7: "at most one (else 4)"
+
+-- a scheme with so many of each behind it: attributes 0 to 6, names; object 31 of attributes 0 to 5
+unfoldable pub having : ℕ → ℕ → ℕ → ℕ → Scheme
+having dependencies declarations removals tables = record {
+  kinds = replicate 32 0;
+  attributes = 127;
+  sets = replicate 31 0 ++ 63 ∷ [];
+  objects = 2147483648;
+  left = replicate 64 0;
+  right = replicate 64 0;
+  dependencies = dependencies;
+  declared = replicate 8 0;
+  declarations = declarations;
+  removed = replicate 8 0;
+  removals = removals;
+  only = false;
+  table = builtIn;
+  tables = tables;
+}
+
+abbrev pub inside : Record → ℕ
+inside r = faultOf (having 0 0 0 0) r
+
+-- the fault of a record at its bound, and one past it
+unfoldable pub bounds : List (List ℕ)
+bounds =
+    (faultOf (having 63 0 0 0) (Dependency 1 2) ∷ faultOf (having 64 0 0 0) (Dependency 1 2) ∷ [])
+    ∷ (faultOf (having 0 7 0 0) (Declared 2147483648) ∷ faultOf (having 0 8 0 0) (Declared 2147483648) ∷ [])
+    ∷ (faultOf (having 0 0 7 0) (Removed 2147483648) ∷ faultOf (having 0 0 8 0) (Removed 2147483648) ∷ [])
+    ∷ (faultOf (having 0 0 0 0) asBuiltIn ∷ faultOf (having 0 0 0 1) asBuiltIn ∷ [])
+    ∷ (inside (Attribute 31 0) ∷ inside (Attribute 32 0) ∷ [])
+    ∷ (inside (Attribute 7 3) ∷ inside (Attribute 7 4) ∷ [])
+    ∷ (inside (Object 0 1) ∷ inside (Object 0 0) ∷ [])
+    ∷ (inside (Object 0 63) ∷ inside (Object 0 127) ∷ [])
+    ∷ (inside (Object 30 1) ∷ inside (Object 32 1) ∷ [])
+    ∷ (inside (Row 31 1 2 3 4 5 6) ∷ inside (Row 32 1 2 3 4 5 6) ∷ [])
+    ∷ []
+
+pub bounds-hold : bounds
+    ≡ (0 ∷ 4 ∷ []) ∷ (0 ∷ 4 ∷ []) ∷ (0 ∷ 4 ∷ []) ∷ (0 ∷ 4 ∷ []) ∷ (0 ∷ 5 ∷ []) ∷ (0 ∷ 5 ∷ []) ∷ (0 ∷ 5 ∷ [])
+    ∷ (0 ∷ 5 ∷ []) ∷ (0 ∷ 5 ∷ []) ∷ (0 ∷ 5 ∷ []) ∷ []
+unfolding bounds having asBuiltIn builtIn faultOf checks maximalChecks rowChecks wrongCells someOutside someNonZero
+    firstOf keepsRules everyBelow entryKeeps mirrored cellOf missing inRange members rank isEmpty single _∖_ _∪_ _∩_
+    within has bit bytes
+bounds-hold = refl
 
 -- ---- what books declare: value kinds, the sets of objects, both sides of the dependencies, kind 5 and kind 6 sets,
 -- each with a place more; the comparison table; the sets of attributes and objects and the counts; the positions of the

@@ -10,5 +10,6 @@ pub mod WellFormed
 pub mod TablesOf
 pub mod RecordsSay
 pub mod Books
+pub mod Cycles
 pub mod Theorems
 pub mod Examples

@@ -24,7 +24,8 @@ use Rattle.scheme.proofs.Theorems.{maximal-objects-are-the-list, cyclic-is-a-fa
 use Rattle.book.specs.Reading.{Outcome, read}
 use Rattle.book.specs.Accepting.{Accepted, AtLast, good}
 use Rattle.book.specs.Conditions.{conditions}
-use Rattle.book.specs.Statements.{FaultMeans, ReadExactly, StopsWith, NumberMeans, AcceptedSay, RowInBytes}
+use Rattle.book.specs.Statements.{FaultMeans, ReadExactly, StopsWith, NumberMeans, NineMeans, AcceptedSay}
+use Rattle.book.specs.Statements.{RowInBytes}
 use Rattle.book.specs.Statements.{SchemeWellFormed, MaximalObjectsRead, TablesOfBook, MaximalObjectsOfBook}
 use Rattle.book.specs.TablesOf.{tablesOf}
 use Rattle.book.proofs.Conditions.{fault-first, first-fault}
@@ -32,6 +33,7 @@ use Rattle.book.proofs.Outcomes.{read-over, read-stops, stops-read, num
 use Rattle.book.proofs.Outcomes.{record-number-not}
 use Rattle.book.proofs.Outcomes.{number-within, number-faulty, faulty-number, number-whole, whole-number}
 use Rattle.book.proofs.Outcomes.{good-last, number-over, number-not-one}
+use Rattle.book.proofs.Cycles.{node-reduces, cover-reduces, whole-cycle, cycle-whole}
 use Rattle.book.proofs.WellFormed.{accepted-well-formed, family-of-attributes, scheme-bounded, maximal-some}
 use Rattle.book.proofs.TablesOf.{tables-family, tables-in-range}
 use Rattle.book.proofs.RecordsSay.{accepted-scheme-said, accepted-rows-said, table-said, row-whole}
@@ -78,6 +80,16 @@ number-means b = record {
     λ p. whole-number b 9 (p .0) (p .1),
   );
 }
+
+-- ---- a cycle
+
+pub nine-means : (b : List ℕ) → NineMeans b
+nine-means b =
+    let nine = number-means b .nine in
+    record {
+      node = (λ e. whole-cycle node-reduces b (nine .0 e), λ o. nine .1 (cycle-whole node-reduces b o));
+      cover = (λ e. whole-cycle cover-reduces b (nine .0 e), λ o. nine .1 (cycle-whole cover-reduces b o));
+    }
 
 -- ---- what accepted records say
 

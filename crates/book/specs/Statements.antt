@@ -1,6 +1,6 @@
 -- What is proved of reading a book, for every list of bytes. The proofs are in `proofs/Theorems.antt`.
--- In order: the fault of a record, where reading stops, the number, what accepted records say, the scheme, the tables
--- and maximal objects of a good book.
+-- In order: the fault of a record, where reading stops, the number, a cycle, what accepted records say, the scheme, the
+-- tables and maximal objects of a good book.
 -- Assumes nothing.
 use mathlib.Core.Path.{_≡_}
 use mathlib.Core.Bool.{true}
@@ -9,6 +9,7 @@ use mathlib.Core.List.{List, [], _∷_, List·Memᴰ}
 use Prim.Native.Nat.{ℕ, _+_, _^_, _≤_, _<_}
 use lib.ListN.{length}
 use Rattle.sets.specs.Sets.{_∈_, _⊆_, rank}
+use Rattle.reduction.specs.Steps.{Step, Form, NodePermits, CoverPermits, Complete, leaves}
 use Rattle.reduction.specs.Kept.{acyclic}
 use Rattle.records.specs.Reader.{readAt}
 use Rattle.records.specs.Checks.{First}
@@ -86,6 +87,34 @@ pub record NumberMeans (b : List ℕ) : Type 0 where
   pub zero : (read b .number ≡ 0) ↔ ((length b ≤ 65536) × AcceptedWhole b 0)
   pub twentyOne : (read b .number ≡ 21) ↔ ((length b ≤ 65536) × AcceptedWhole b 21)
   pub nine : (read b .number ≡ 9) ↔ ((length b ≤ 65536) × AcceptedWhole b 9)
+
+-- ---- a cycle: "Every one left must be acyclic: it reduces to nothing with no sacred attributes."
+
+-- a remaining maximal object has a complete list of a form's steps, with no sacred attributes, that leaves a set
+pub record CycleLeft (permits : ℕ → Form) (s : Scheme) : Type 0 where
+  pub object : ℕ
+  pub remaining : List·Memᴰ object (maximalOf s)
+  pub steps : List Step
+  pub complete : Complete (permits 0) (familyOf (s .sets) object) steps
+  pub set : ℕ
+  pub left : List·Memᴰ set (leaves (familyOf (s .sets) object) steps)
+
+-- every condition before it is good: the length, each record, and not "21 a book with both kinds"
+pub record OnlyACycle (permits : ℕ → Form) (b : List ℕ) : Type 0 where
+  pub short : length b ≤ 65536
+  pub passed : List Record
+  pub scheme : Scheme
+  pub rows : List ℕ
+  pub at : ℕ
+  pub accepted : Accepted b passed scheme rows at
+  pub ended : length b ≤ at
+  pub notBoth : (scheme .only ≡ true) × (1 ≤ scheme .removals) → ⊥
+  pub cycle : CycleLeft permits scheme
+
+-- "a remaining maximal object with a cycle 9": exactly there, by the steps of either form
+pub record NineMeans (b : List ℕ) : Type 0 where
+  pub node : (read b .number ≡ 9) ↔ OnlyACycle NodePermits b
+  pub cover : (read b .number ≡ 9) ↔ OnlyACycle CoverPermits b
 
 -- ---- what accepted records say
 

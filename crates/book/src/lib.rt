@@ -39,19 +39,19 @@ fn some_nonzero(cells: [u32; 6], from: usize) -> bool
     false
 }
 
-// Whether some attribute of the set has a cell outside the range of its kind.
+// Whether some attribute of the set has a cell outside the range of its kind. The attributes of the set below one are
+// counted to find its cell.
 fn some_outside(kinds: [u8; KINDS], set: AttributeSet, cells: [u32; 6]) -> bool
     requires { ⌜ count 32 set ≤ 6 ⌝ }
     ensures { λ r. ⌜ r ≡ someOutside kinds set cells 32 ⌝ }
 {
-    let mut place: usize = 0;
     let mut a: usize = 0;
     while a < KINDS {
         if sets::has(set, a as u32) {
+            let place = sets::rank(set, a as u32) as usize;
             if !values::in_range(kinds[a], cells[place]) {
                 return true;
             }
-            place += 1;
         }
         a += 1;
     }

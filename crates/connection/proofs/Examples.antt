@@ -9,7 +9,7 @@ use lib.ListN.{length, drop, replicate}
 use Rattle.sets.specs.Sets.{bit, has, within, _∩_, _∪_, _∖_, single, isEmpty, rank, members}
 use Rattle.values.specs.Values.{missing, inRange, signed, valueOf, lessCell, matches}
 use Rattle.values.specs.Operators.{compares, holds}
-use Rattle.values.specs.Table.{builtIn, allows}
+use Rattle.values.specs.Table.{builtIn, allows, keepsRules, entryKeeps, everyBelow, mirrored}
 use Rattle.records.specs.Fields.{bytes, value, field}
 use Rattle.records.specs.Records.{kinds, whose, isKind, ofBook, ofQuery, bodyLength, kindOf}
 use Rattle.records.specs.Records.{bytesOf, bytesOfAll}
@@ -17,7 +17,8 @@ use Rattle.records.specs.Reader.{bodies, recordOf, readFront, readAt}
 use Rattle.records.specs.Checks.{firstOf}
 use Rattle.records.specs.Walking.{shortNumber, walkFrom, walk}
 use Rattle.records.specs.declared.Record.{Record}
-use Rattle.records.specs.declared.Record.the-variants.{Attribute, Object, Row, Item, CompareTwo, End}
+use Rattle.records.specs.declared.Record.the-variants.{Attribute, Object, Row, Comparisons, Item, CompareTwo}
+use Rattle.records.specs.declared.Record.the-variants.{CompareConstant, End}
 use Rattle.reduction.specs.Kept.{union, around, someHolds, removable, stays, staying, settle, left, acyclic}
 use Rattle.reduction.specs.Kept.{goesFor, goes, keeps, keptOf, kept}
 use Rattle.relation.specs.Tables.{cellOf, projected, project}
@@ -31,7 +32,7 @@ use Rattle.scheme.specs.OfScheme.{pairs, computedOf, maximalOf, bothOf, cyclicO
 use Rattle.book.specs.Faults.{someNonZero, someOutside, wrongCells, rowChecks, maximalChecks, checks}
 use Rattle.book.specs.Faults.{faultOf}
 use Rattle.book.specs.Declaring.{nothingDeclared, withAttribute, withObject, withDependency, withDeclared, withRemoved}
-use Rattle.book.specs.Declaring.{withOnly, declare}
+use Rattle.book.specs.Declaring.{withOnly, withTable, declare}
 use Rattle.book.specs.Reading.{isRow, withRow, records, lastNumber, lastFault, afterLast, read}
 use Rattle.book.specs.TablesOf as Tables
 use Rattle.book.specs.TablesOf.{tablesOf}
@@ -68,6 +69,12 @@ unfoldable pub twoObjects : List Record
 twoObjects =
     Attribute 0 0 ∷ Attribute 1 0 ∷ Attribute 2 0 ∷ Object 0 3 ∷ Object 1 6
     ∷ Row 0 1 20 0 0 0 0 ∷ Row 0 2 30 0 0 0 0 ∷ Row 1 10 5 0 0 0 0 ∷ Row 1 20 6 0 0 0 0 ∷ []
+
+-- a length beside a date, over a table that allows all six operators between the two: -5 and 3, 7 and 3
+unfoldable pub beside : List Record
+beside =
+    Attribute 0 1 ∷ Attribute 1 3 ∷ Object 0 3 ∷ Comparisons 3 1056980736 196608 1056980736
+    ∷ Row 0 4294967291 3 0 0 0 0 ∷ Row 0 7 3 0 0 0 0 ∷ []
 
 -- ---- queries
 
@@ -186,6 +193,11 @@ rowTrials =
       gives = rows lengths (Item 0 0 ∷ []);
       says = (4294964796 ∷ []) ∷ (4294966396 ∷ []) ∷ (5 ∷ []) ∷ [];
     }
+    -- comparisons: stations where DEPTH is at most -1000, of -2500 and -900; lengths less than the date beside them,
+    -- and dates less than the length beside them
+    ∷ record { gives = rows survey (Item 0 0 ∷ CompareConstant 0 3 3 4294966296 ∷ []); says = (10 ∷ []) ∷ [] }
+    ∷ record { gives = rows beside (Item 0 0 ∷ CompareTwo 0 0 2 0 1 ∷ []); says = (4294967291 ∷ []) ∷ [] }
+    ∷ record { gives = rows beside (Item 0 0 ∷ CompareTwo 0 1 2 0 0 ∷ []); says = (7 ∷ []) ∷ [] }
     -- "Rows are distinct": one trip of three stations
     ∷ record { gives = rows survey (Item 0 2 ∷ []); says = (7 ∷ []) ∷ [] }
     -- "the union of the parts over all such M": 20 is in both parts
@@ -196,17 +208,18 @@ rowTrials =
     ∷ []
 
 pub rows-hold : map (λ t. t .gives) rowTrials ≡ map (λ t. t .says) rowTrials
-unfolding rowTrials rows twoObjects lengths withEmpty survey ring spaceAfter answerOf refused number spaceNumber rowsOf
-    answerRows itemKinds choices inFront rowsFor cellsOf allTrue isTrue rightCell itemCells Answers.rowsOf
-    connection parts withRows Sorted.cellsOf insertRows insertRow lessRow Query.read atEnd wholeNumber someUnconnected
-    unconnected isNil containing walkQuery isEnd Queries.faultOf Queries.checks ofQuery askedOf filled attributesNamed
-    naming namesOf nameOf comparisonsOf comparisonOf itemsOf itemOf tablesOf Tables.rowsOf Tables.rowOf Tables.cellsOf
-    read afterLast lastFault lastNumber records withRow isRow declare withOnly withRemoved withDeclared withDependency
-    withObject withAttribute nothingDeclared faultOf checks maximalChecks rowChecks wrongCells someOutside someNonZero
-    ofBook cyclicOf bothOf maximalOf computedOf pairs someCyclic counted bothKinds maximalObjects adding removing isOne
-    computed grown rounds holding joins attributesOf familyOf closure passes pass part joinRows goingOn eachPassing
-    matchesAll rowsMatch allPass shownRows together project projected cellOf kept keptOf keeps goes goesFor acyclic left
-    settle staying stays removable someHolds around union walk walkFrom shortNumber firstOf readAt readFront recordOf
-    bodies bytesOfAll bytesOf kindOf bodyLength isKind whose kinds field value bytes allows builtIn holds compares
-    matches lessCell valueOf signed missing inRange members rank isEmpty single _∖_ _∪_ _∩_ within has bit
+unfolding rowTrials rows beside withTable keepsRules entryKeeps everyBelow mirrored twoObjects lengths withEmpty survey
+    ring spaceAfter answerOf refused number spaceNumber rowsOf answerRows itemKinds choices inFront rowsFor cellsOf
+    allTrue isTrue rightCell itemCells Answers.rowsOf connection parts withRows Sorted.cellsOf insertRows insertRow
+    lessRow Query.read atEnd wholeNumber someUnconnected unconnected isNil containing walkQuery isEnd Queries.faultOf
+    Queries.checks ofQuery askedOf filled attributesNamed naming namesOf nameOf comparisonsOf comparisonOf itemsOf
+    itemOf tablesOf Tables.rowsOf Tables.rowOf Tables.cellsOf read afterLast lastFault lastNumber records withRow isRow
+    declare withOnly withRemoved withDeclared withDependency withObject withAttribute nothingDeclared faultOf checks
+    maximalChecks rowChecks wrongCells someOutside someNonZero ofBook cyclicOf bothOf maximalOf computedOf pairs
+    someCyclic counted bothKinds maximalObjects adding removing isOne computed grown rounds holding joins attributesOf
+    familyOf closure passes pass part joinRows goingOn eachPassing matchesAll rowsMatch allPass shownRows together
+    project projected cellOf kept keptOf keeps goes goesFor acyclic left settle staying stays removable someHolds around
+    union walk walkFrom shortNumber firstOf readAt readFront recordOf bodies bytesOfAll bytesOf kindOf bodyLength isKind
+    whose kinds field value bytes allows builtIn holds compares matches lessCell valueOf signed missing inRange members
+    rank isEmpty single _∖_ _∪_ _∩_ within has bit
 rows-hold = refl

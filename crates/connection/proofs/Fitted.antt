@@ -8,7 +8,6 @@ use Prim.Native.Nat.{ℕ, _<_}
 use lib.ListN.{getD}
 use Rattle.sets.specs.Sets.{_∈_, _⊆_, members}
 use Rattle.sets.proofs.Bits.{member-lt}
-use Rattle.sets.proofs.Sets.{∩-left}
 use Rattle.reduction.specs.Steps.{Family}
 use Rattle.reduction.specs.Kept.{union, kept}
 use Rattle.reduction.specs.Statements.{OfAttributes}
@@ -28,8 +27,7 @@ use Rattle.query.specs.Asking.{attributesNamed}
 use Rattle.query.specs.Accepting.{NamedIn}
 use Rattle.connection.specs.Connection.{InPart, InConnection}
 use Rattle.connection.specs.Answers.{Cells, cellsOf, InAnswer, shownTables}
-use Rattle.plan.specs.Planned.{leftOf}
-use Rattle.plan.proofs.Families.{object-in-family}
+use Rattle.plan.proofs.Families.{object-in-family, kept-shown}
 use Rattle.connection.specs.Fitting.{tableOf, RowFits, FitsObject, FitsVariable, FitsQuery}
 use Rattle.connection.specs.Statements.{NamesInRange}
 use Rattle.connection.proofs.Shown.{row-of-object, of-shown-row, shownOn, shown-has, of-shown}
@@ -74,16 +72,16 @@ module _ (b : List ℕ) (o : Outcome) (bounded : (M : ℕ) → OfAttributes (fam
 
     object-fits-shown : {X B : ℕ} → FitsObject b o M X ρ → AllFit B ρ (shownTables b o M X)
     object-fits-shown {X} {B} f T m =
-        let (c, s, e) = of-shown b o M X m in
-        subst (FitsOn B ρ) (sym e) (row-fits-on (f .each c s))
+        let (K, s, e) = of-shown b o M X m in
+        subst (FitsOn B ρ) (sym e) (row-fits-on (f .each K s))
 
     shown-fits-object : {X : ℕ} → AllFit (union (family (shownTables b o M X))) ρ (shownTables b o M X)
         → Stated (o .scheme .kinds) (family (shownTables b o M X)) ρ → FitsObject b o M X ρ
     shown-fits-object {X} f g = record {
-      each = λ c s.
+      each = λ K s.
           let m = shown-has b o M X s in
           fits-on-row (union-⊇ (Memᴰ·map (λ (T : Table). T .set) m)) (f _ m);
-      stated = λ a c d s t n _ i j.
+      stated = λ a K L s t n _ i j.
           g a (subst (λ (F : Family). OfTwo F a) (sym (family-unions (tablesOf b o M) (keptSets (tablesOf b o M) X)))
           (kept-of-two b o M X s t n i j));
     }
@@ -92,9 +90,9 @@ module _ (b : List ℕ) (o : Outcome) (bounded : (M : ℕ) → OfAttributes (fam
     object-stated {X} f a w =
         let p = of-two-keep b o M X
         (subst (λ (F : Family). OfTwo F a) (family-unions (tablesOf b o M) (keptSets (tablesOf b o M) X)) w) in
-        let low = attribute-lt (p .oneKeeps .below) (p .oneKeeps .there)
-        (∩-left (getD (o .scheme .sets) (p .one) 0) (leftOf (o .scheme .sets) M X) (p .inOne)) in
-        f .stated a (p .one) (p .other) (p .oneKeeps) (p .otherKeeps) (p .apart) low (p .inOne) (p .inOther)
+        let (c, s) = kept-shown (o .scheme .sets) M X (p .oneKept) in
+        let low = attribute-lt (s .below) (s .there) (s .contains .each (p .inOne)) in
+        f .stated a (p .one) (p .other) (p .oneKept) (p .otherKept) (p .apart) low (p .inOne) (p .inOther)
 
   -- ---- parts
 

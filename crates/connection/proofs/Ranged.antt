@@ -19,7 +19,7 @@ use Rattle.book.specs.TablesOf.{rowsOf}
 use Rattle.book.proofs.Theorems.{tables-of-book}
 use Rattle.connection.specs.Connection.{InConnection}
 use Rattle.connection.specs.Answers.{shownTables}
-use Rattle.plan.specs.Planned.{Keeps, keptBy}
+use Rattle.plan.specs.Planned.{keptFor}
 use Rattle.connection.specs.Fitting.{tableOf, FitsObject, FitsVariable}
 use Rattle.connection.proofs.Shown.{table-there, of-shown}
 use Rattle.connection.proofs.Fitted.{wanted-shown, connection-cells}
@@ -47,14 +47,14 @@ module _ (b : List ℕ) where
   module _ (bounded : (M : ℕ) → OfAttributes (familyOf (read b .scheme .sets) M)) where
     -- an attribute of a table shown is one of a kept set
     record HeldBy (M X a : ℕ) : Type 0 where
-      object : ℕ
-      keeps : Keeps (read b .scheme .sets) M X object
-      held : a ∈ keptBy (read b .scheme .sets) M X object
+      set : ℕ
+      isKept : List·Memᴰ set (keptFor (read b .scheme .sets) M X)
+      held : a ∈ set
 
     shown-held : {M X a : ℕ} {T : Table} → List·Memᴰ T (shownTables b (read b) M X) → a ∈ T .set → HeldBy M X a
     shown-held {M} {X} {a} m i =
-        let (c, s, e) = of-shown b (read b) M X m in
-        record { object = c; keeps = s; held = subst (λ (U : Table). a ∈ U .set) e i }
+        let (K, s, e) = of-shown b (read b) M X m in
+        record { set = K; isKept = s; held = subst (λ (U : Table). a ∈ U .set) e i }
 
     fitting-held : {X a : ℕ} {ρ : ℕ → ℕ} (f : FitsVariable b (read b) X ρ) → a ∈ X → HeldBy (f .object) X a
     fitting-held {X} {a} f i =
@@ -65,7 +65,7 @@ module _ (b : List ℕ) where
 
     held-ranged : {M X a : ℕ} {ρ : ℕ → ℕ} → FitsObject b (read b) M X ρ → a < 32 → HeldBy M X a → Ranged a (ρ a)
     held-ranged {M} {X} {a} f h q =
-        let r = f .each (q .object) (q .keeps) in
+        let r = f .each (q .set) (q .isKept) in
         subst (Ranged a) (r .cells a h (q .held))
         (cell-ranged {M = M} (r .shown .below) (r .shown .there) (r .there) (r .shown .contains .each (q .held)))
 

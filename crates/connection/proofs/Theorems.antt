@@ -7,21 +7,23 @@ use lib.ListN.{length-map}
 use Rattle.sets.specs.Sets.{_∈_, _⊆_}
 use Rattle.reduction.specs.Steps.{Family}
 use Rattle.reduction.specs.Statements.{OfAttributes}
+use Rattle.values.specs.Statements.{OperatorsMean}
+use Rattle.values.proofs.Theorems.{operators-mean}
 use Rattle.reduction.proofs.Kept.{one-kept}
 use Rattle.records.specs.declared.Record.{Record}
 use Rattle.scheme.specs.Growing.{familyOf, attributesOf}
 use Rattle.scheme.specs.OfScheme.{maximalOf}
-use Rattle.book.specs.Reading.{read}
+use Rattle.book.specs.Reading.{Outcome, read}
 use Rattle.book.proofs.WellFormed.{family-of-attributes}
 use Rattle.book.proofs.Theorems.{scheme-well-formed, maximal-objects-of-book}
 use Rattle.query.specs.Asking.{itemsOf}
 use Rattle.connection.specs.Statements.{NamesInRange, ConnectionListed, AnswerListed, AnswerInRange, CombinationsGive}
-use Rattle.connection.specs.Statements.{AnswerFits, OneKeptSet}
-use Rattle.connection.specs.Answers.{kindOf, itemKinds}
+use Rattle.connection.specs.Statements.{AnswerFits, OneKeptSet, ComparisonMeans}
+use Rattle.connection.specs.Answers.{Cells, kindOf, kindAt, rightCell, isTrue, itemKinds}
 use Rattle.connection.specs.Answering.{queryRead, rowsOf}
 use Rattle.connection.specs.Outcomes.{itemCount, AnswerNumberMeans, Demand1, PromiseE}
 use Rattle.connection.proofs.InRange.{read-in-range}
-use Rattle.connection.proofs.Shown.{of-shown-row, row-of-object, kept-of-tables, tables-keep}
+use Rattle.connection.proofs.Shown.{of-shown-row, row-of-object, tables-kept}
 use Rattle.connection.proofs.Connected.{of-connection, connection-has}
 use Rattle.connection.proofs.Fitted.{part-fits, fits-part, answer-fits-query, fits-query-answer}
 use Rattle.connection.proofs.Answered.{answer-rows, answer-ascending, answer-rows-of-kinds, only-answer}
@@ -63,6 +65,15 @@ answer-listed b rs range = record {
 
 pub answer-in-range : (b : List ℕ) (rs : List Record) → NamesInRange rs → AnswerInRange b rs
 answer-in-range b rs range = record { each = answer-rows-ranged b (bounded b) rs range }
+
+-- ---- comparisons
+
+pub comparison-means : (o : Outcome) (at : Cells) → ComparisonMeans o at
+unfolding OperatorsMean isTrue rightCell
+comparison-means o at = record {
+  two = λ x v a v2 a2. operators-mean x (kindAt o a) (kindAt o a2) (at v a) (at v2 a2);
+  constant = λ x v a cell. operators-mean x (kindAt o a) (kindAt o a) (at v a) cell;
+}
 
 -- ---- combinations
 
@@ -123,7 +134,7 @@ promise-e b z M m X some inside =
     let due = maximal-objects-of-book b .good z M m .demand3 X some inside in
     record {
       demand3 = due;
-      kept = λ K. (kept-of-tables b (read b) M X, tables-keep b (read b) M X);
+      kept = tables-kept b (read b) M X;
       shown = λ K row. (of-shown-row b (read b) M, λ (k, s, m). row-of-object b (read b) M s m);
       part = λ row. (
         λ j.

@@ -18,7 +18,7 @@ use Rattle.book.specs.TablesOf.{rowsOf}
 use Rattle.query.specs.declared.Comparison.{Comparison}
 use Rattle.query.specs.Asking.{itemsOf, comparisonsOf, attributesNamed}
 use Rattle.query.specs.Accepting.{NamedIn}
-use Rattle.plan.specs.Planned.{Keeps, keptBy, Shows}
+use Rattle.plan.specs.Planned.{keptFor, Shows}
 use Rattle.connection.specs.Answers.{Cells, itemCells, isTrue}
 
 -- ---- cells that fit a maximal object
@@ -36,10 +36,10 @@ pub record RowFits (b : List ℕ) (o : Outcome) (M K : ℕ) (at : ℕ → ℕ) :
   pub cells : (a : ℕ) → a < 32 → a ∈ K → cellOf (getD (o .scheme .sets) object 0) row a ≡ at a
 
 pub record FitsObject (b : List ℕ) (o : Outcome) (M X : ℕ) (at : ℕ → ℕ) : Type 0 where
-  pub each : (c : ℕ) → Keeps (o .scheme .sets) M X c → RowFits b o M (keptBy (o .scheme .sets) M X c) at
+  pub each : (K : ℕ) → List·Memᴰ K (keptFor (o .scheme .sets) M X) → RowFits b o M K at
   -- "in a join a missing cell matches nothing" (request 5): none stands under an attribute of two kept sets
-  pub stated : (a c d : ℕ) → Keeps (o .scheme .sets) M X c → Keeps (o .scheme .sets) M X d → (c ≡ d → ⊥)
-      → a < 32 → a ∈ keptBy (o .scheme .sets) M X c → a ∈ keptBy (o .scheme .sets) M X d
+  pub stated : (a K L : ℕ) → List·Memᴰ K (keptFor (o .scheme .sets) M X)
+      → List·Memᴰ L (keptFor (o .scheme .sets) M X) → (K ≡ L → ⊥) → a < 32 → a ∈ K → a ∈ L
       → missing (getD (o .scheme .kinds) a 0) (at a) ≡ false
 
 -- ---- cells that fit a query: for each variable named a maximal object that contains its attributes

@@ -2,7 +2,7 @@
 -- In order: statuses, an answer, bytes that are given.
 -- Not here: the words of a refusal (`Words`).
 -- Assumes nothing.
-use mathlib.Core.Bool.{true, false}
+use mathlib.Core.Bool.{Bool, true, false}
 use mathlib.Core.List.{List, [], _∷_, _++_}
 use Prim.Native.Nat.{ℕ}
 use lib.Dec.{ltb}
@@ -32,19 +32,23 @@ notFit = 2
 unfoldable pub answerCells : Answer → List ℕ
 answerCells a = a .refusal ∷ a .rows ∷ a .serial ∷ a .read ∷ []
 
+-- no room for them
+abbrev pub tooFew : List ℕ → Bool
+tooFew results = ltb (length results) 4
+
 unfoldable pub answerStatus : List ℕ → ℕ
-answerStatus results = elim (ltb (length results) 4) [ true ↦ short | false ↦ done ]
+answerStatus results = elim (tooFew results) [ true ↦ short | false ↦ done ]
 
 unfoldable pub answerResults : List ℕ → List ℕ → ℕ → ℕ → List ℕ → List ℕ
 answerResults b q serial room results =
-    elim (ltb (length results) 4) [
+    elim (tooFew results) [
       | true ↦ results
       | false ↦ answerCells (answerOf b q serial room) ++ drop 4 results
     ]
 
 unfoldable pub answerSpace : List ℕ → List ℕ → ℕ → List ℕ → List ℕ → List ℕ
 answerSpace b q serial space results =
-    elim (ltb (length results) 4) [ true ↦ space | false ↦ spaceAfter b q serial space ]
+    elim (tooFew results) [ true ↦ space | false ↦ spaceAfter b q serial space ]
 
 -- ---- bytes that are given: one result, how many they are
 

@@ -6,17 +6,17 @@ use mathlib.Core.Path.{_≡_, refl, sym, ap, subst, _∙_}
 use mathlib.Core.Bool.{Bool, true, false, _&&_}
 use mathlib.Core.List.{List, [], _∷_}
 use Prim.Native.Nat.{ℕ, zero, suc, _+_, _*_, _≤_, _<_}
-use native.Mathlib.Nat.{le-of-eq, mul-le-mul}
+use native.Mathlib.Nat.{le-of-eq, lt-of-le-of-lt, mul-le-mul}
 use native.Mathlib.Numerals.{add-one}
 use native.Mathlib.Omega.{arith}
 use borrow.Author.Tests as Tests
 use mir.Syntax.{w64}
 use mir.Val.{Fits}
 use lib.Dec.{ltb, leb}
-use lib.ListN.{length, getD, drop, drop-of-length-le, length-drop}
+use lib.ListN.{length, getD, drop, replicate, drop-of-length-le, length-drop, length-replicate, getD-replicate}
 use lib.Seq.{drop-cons, getD-take, getD-drop, length-take-le}
 use Rattle.sets.proofs.Tests.{and-yes, yes-and}
-use Rattle.values.specs.Values.{inRange}
+use Rattle.values.specs.Values.{missing, inRange}
 use Rattle.sorted.specs.Rows.{Row, rowsIn}
 use Rattle.sorted.proofs.Halving.{row-of, row-inside, length-rows}
 use Rattle.printout.specs.Lines.{FitToPrint, allKnown, rowFits, rowsFit, fits}
@@ -247,3 +247,24 @@ module _ (rows : ℕ) (kinds cells : List ℕ) where
       let g : i < rows = omega (arith, h, length-rows (length kinds) rows cells) in
       each-row kinds (getD (rowsIn (length kinds) rows cells) i [])
       (λ j k. subst (λ (c : ℕ). inRange (getD kinds j 0) c ≡ true) (sym (cell-at i j g k)) (v .inRanges i j g k))))))))
+
+-- rows of one name, each 0
+abbrev names : ℕ → List ℕ
+names rows = replicate rows 0
+
+pub names-fit : (rows : ℕ) → rows ≤ 999_999_999_999 → FitToPrint rows (0 ∷ []) (replicate rows 0)
+unfolding inRange missing
+names-fit rows few = record {
+  someItems = omega arith;
+  fewItems = omega arith;
+  knownKinds = λ j h.
+      let z : j ≡ 0 = omega (arith, h) in
+      lt-of-le-of-lt (le-of-eq (ap (λ (n : ℕ). getD (0 ∷ []) n 0) z)) (omega arith);
+  fewRows = few;
+  enoughCells = omega (arith, length-replicate {A = ℕ} rows 0);
+  inRanges = λ i j h k.
+      let z : j ≡ 0 = omega (arith, k) in
+      let e : i * 1 + j ≡ i = omega (arith, z) in
+      ap (λ (n : ℕ). inRange (getD (0 ∷ []) n 0) (getD (names rows) (i * 1 + j) 0)) z
+      ∙ ap (inRange 0) (ap (λ (n : ℕ). getD (names rows) n 0) e ∙ getD-replicate {A = ℕ} rows i 0 0 h);
+}

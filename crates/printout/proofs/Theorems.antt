@@ -1,18 +1,21 @@
 -- The theorems of `specs/Statements.antt`, in its order.
 -- In order: numbers in decimal, cells, what a text says, fit to print, what printing gives, room.
 -- Assumes nothing.
-use mathlib.Core.Path.{_≡_, sym, ap, _∙_}
+use mathlib.Core.Path.{_≡_, refl, sym, ap, _∙_}
 use mathlib.Core.List.{List}
 use Prim.Native.Nat.{ℕ}
 use native.Mathlib.Omega.{arith}
 use lib.ListN.{getD}
-use Rattle.printout.specs.Statements.{InDecimal, CellsRead, TextsRead, FitTested}
+use Rattle.values.specs.Values.{missing, inRange}
+use Rattle.sorted.specs.Rows.{rowsIn}
+use Rattle.printout.specs.Lines.{allKnown, rowFits, rowsFit, fits}
+use Rattle.printout.specs.Statements.{InDecimal, CellsRead, TextsRead, FitTested, FitBounds}
 use Rattle.printout.specs.Statements.{TextPrinted, AnswerPrinted, RoomEnough}
 use Rattle.printout.proofs.Decimal.{decimal-small, decimal-large, decimal-numeral, number-decimal}
 use Rattle.printout.proofs.Decimal.{numeral-decimal, integer-read, cell-same}
 use Rattle.printout.proofs.Lines.{row-same, answer-same, book-same, query-same}
 use Rattle.printout.proofs.Lines.{answer-first, book-first, query-first}
-use Rattle.printout.proofs.Fit.{fits-fit, fit-fits}
+use Rattle.printout.proofs.Fit.{fits-fit, fit-fits, names-fit}
 use Rattle.printout.proofs.Texts as Texts
 use Rattle.printout.proofs.Room.{answer-short, book-short, query-short}
 
@@ -48,6 +51,17 @@ texts-read = record {
 pub fit-tested : FitTested
 unfolding FitTested
 fit-tested rows kinds cells = (fits-fit rows kinds cells, fit-fits rows kinds cells)
+
+pub fit-bounds : FitBounds
+unfolding fits allKnown rowFits rowsFit rowsIn missing inRange
+fit-bounds = record {
+  noItem = λ rows cells f. omega (arith, f .someItems);
+  eightItems = fits-fit 1 _ _ refl;
+  nineItems = λ rows kinds cells h f. omega (arith, h, f .fewItems);
+  fourIsNoKind = λ rows kinds cells j h l f. omega (arith, l, f .knownKinds j h);
+  mostRows = names-fit;
+  moreRows = λ rows kinds cells h f. omega (arith, h, f .fewRows);
+}
 
 pub text-printed : (text bytes : List ℕ) → TextPrinted text bytes
 text-printed = Texts.text-printed

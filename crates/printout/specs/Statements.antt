@@ -1,5 +1,5 @@
 -- What is proved of the printout. The proofs are in `proofs/Theorems.antt`.
--- In order: numbers in decimal, cells, what a text says, fit to print, what printing gives, room.
+-- In order: numbers in decimal, cells, what a text says, fit to print and its bounds, what printing gives, room.
 -- Assumes nothing.
 use mathlib.Core.Path.{_≡_}
 use mathlib.Core.Bool.{true}
@@ -7,7 +7,7 @@ use mathlib.Core.Logic.{_↔_}
 use mathlib.Core.List.{List, [], _∷_, _++_}
 use Prim.Native.Nat.{ℕ, _+_, _*_, _/_, _%_, _^_, _≤_, _<_}
 use lib.IntN.{ℤ}
-use lib.ListN.{length, take, drop}
+use lib.ListN.{length, getD, take, drop, replicate}
 use Rattle.sorted.specs.Rows.{Row, OfKinds}
 use Rattle.printout.specs.Decimal.{decimal, Numeral, numberOf, integerText, integerOf, cellText}
 use Rattle.printout.specs.Lines.{rowLine, answerText, bookRefused, queryRefused, FitToPrint, fits}
@@ -45,6 +45,17 @@ pub record TextsRead : Type 0 where
 -- the tests pass exactly if the answer is "fit to print"
 unfoldable pub FitTested : Type 0
 FitTested = (rows : ℕ) (kinds cells : List ℕ) → (fits rows kinds cells ≡ true) ↔ FitToPrint rows kinds cells
+
+-- the paper's numbers at their edges: "1 to 8 items of known value kinds, at most 999,999,999,999 rows"
+pub record FitBounds : Type 0 where
+  pub noItem : (rows : ℕ) (cells : List ℕ) → ¬ FitToPrint rows [] cells
+  pub eightItems : FitToPrint 1 (0 ∷ 1 ∷ 2 ∷ 3 ∷ 0 ∷ 1 ∷ 2 ∷ 3 ∷ []) (0 ∷ 0 ∷ 0 ∷ 0 ∷ 0 ∷ 0 ∷ 0 ∷ 0 ∷ [])
+  pub nineItems : (rows : ℕ) (kinds cells : List ℕ) → 9 ≤ length kinds → ¬ FitToPrint rows kinds cells
+  pub fourIsNoKind : (rows : ℕ) (kinds cells : List ℕ) (j : ℕ) → j < length kinds → 4 ≤ getD kinds j 0
+      → ¬ FitToPrint rows kinds cells
+  -- so many rows of one name, each 0
+  pub mostRows : (rows : ℕ) → rows ≤ 999_999_999_999 → FitToPrint rows (0 ∷ []) (replicate rows 0)
+  pub moreRows : (rows : ℕ) (kinds cells : List ℕ) → 1_000_000_000_000 ≤ rows → ¬ FitToPrint rows kinds cells
 
 -- a text is printed whole, or there is no room for it and nothing changes
 pub record TextPrinted (text bytes : List ℕ) : Type 0 where

@@ -69,6 +69,25 @@ ofClub = record {
   tables = 1;
 }
 
+-- the same with a table that has less one way only: lengths less than dates, and so dates greater than lengths
+unfoldable pub oneWay : Scheme
+oneWay = record {
+  kinds = book .kinds;
+  attributes = book .attributes;
+  sets = book .sets;
+  objects = book .objects;
+  left = book .left;
+  right = book .right;
+  dependencies = book .dependencies;
+  declared = book .declared;
+  declarations = book .declarations;
+  removed = book .removed;
+  removals = book .removals;
+  only = book .only;
+  table = 3 ∷ 0 ∷ 0 ∷ 0 ∷ 0 ∷ 63 ∷ 0 ∷ 4 ∷ 0 ∷ 0 ∷ 3 ∷ 0 ∷ 0 ∷ 16 ∷ 0 ∷ 63 ∷ [];
+  tables = 1;
+}
+
 -- its maximal objects: one of objects 0 and 1, one of object 2
 unfoldable pub maximals : List ℕ
 maximals = 3 ∷ 4 ∷ []
@@ -109,6 +128,9 @@ query rs = result (bytesOfAll (rs ++ End ∷ []))
 -- the same over the book with a comparison table of its own
 abbrev pub clubQuery : List Record → List ℕ
 clubQuery rs = resultOf (queryOf (read ofClub maximals (bytesOfAll (rs ++ End ∷ []))))
+
+abbrev pub oneWayQuery : List Record → List ℕ
+oneWayQuery rs = resultOf (queryOf (read oneWay maximals (bytesOfAll (rs ++ End ∷ []))))
 
 abbrev pub unendedQuery : List Record → List ℕ
 unendedQuery rs = result (bytesOfAll rs)
@@ -199,6 +221,12 @@ trials =
     ∷ refuses (clubQuery (Item 0 0 ∷ CompareTwo 0 1 0 0 0 ∷ [])) 11
     ∷ answers (clubQuery (Item 1 3 ∷ CompareTwo 1 3 2 1 4 ∷ [])) 10
     ∷ refuses (query (Item 1 3 ∷ CompareTwo 1 3 2 1 4 ∷ [])) 11
+    -- "byte 4 times left kind plus right kind", "bit n for operator n": attribute 4 is a length, 3 a date
+    ∷ answers (oneWayQuery (Item 1 3 ∷ CompareTwo 1 4 2 1 3 ∷ [])) 10
+    ∷ answers (oneWayQuery (Item 1 3 ∷ CompareTwo 1 3 4 1 4 ∷ [])) 10
+    ∷ refuses (oneWayQuery (Item 1 3 ∷ CompareTwo 1 3 2 1 4 ∷ [])) 11
+    ∷ refuses (oneWayQuery (Item 1 3 ∷ CompareTwo 1 4 4 1 3 ∷ [])) 11
+    ∷ refuses (oneWayQuery (Item 1 3 ∷ CompareTwo 1 4 3 1 3 ∷ [])) 11
     -- "an angle constant over 35,999 is then 5", after 11; of other kinds it is none
     ∷ refuses (query (Item 0 0 ∷ CompareConstant 0 2 0 36000 ∷ [])) 5
     ∷ refuses (query (Item 0 0 ∷ CompareConstant 0 2 2 36000 ∷ [])) 11
@@ -240,9 +268,10 @@ trials =
     ∷ []
 
 pub trials-hold : map (λ t. t .gives) trials ≡ map (λ t. t .says) trials
-unfolding trials book ofClub maximals good eightOfTwo eightWithConstant eightItems resultOf result fieldsOf askedBy asks
-    flatMap queryOf read atEnd wholeNumber someUnconnected unconnected isNil containing walkQuery isEnd faultOf checks
-    ofQuery askedOf filled attributesNamed naming namesOf nameOf comparisonsOf comparisonOf itemsOf itemOf shortNumber
-    walkFrom walk firstOf readAt readFront recordOf bodies bytesOfAll bytesOf bodyLength isKind whose kinds field value
-    bytes attributesOf familyOf union allows builtIn missing inRange members isEmpty single _∪_ within has bit
+unfolding trials book ofClub oneWay maximals good eightOfTwo eightWithConstant eightItems resultOf result fieldsOf
+    askedBy asks flatMap queryOf read atEnd wholeNumber someUnconnected unconnected isNil containing walkQuery isEnd
+    faultOf checks ofQuery askedOf filled attributesNamed naming namesOf nameOf comparisonsOf comparisonOf itemsOf
+    itemOf shortNumber walkFrom walk firstOf readAt readFront recordOf bodies bytesOfAll bytesOf bodyLength isKind whose
+    kinds field value bytes attributesOf familyOf union allows builtIn missing inRange members isEmpty single _∪_ within
+    has bit
 trials-hold = refl

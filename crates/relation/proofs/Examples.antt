@@ -77,6 +77,13 @@ noDepth = record { set = 9; rows = (10 ∷ 2147483648 ∷ []) ∷ [] }
 unfoldable pub ownGap : List Table
 ownGap = lead ∷ noDepth ∷ []
 
+-- leads and trips by their depth, one of them missing
+unfoldable pub depths : List Table
+depths =
+    record { set = 10; rows = (501 ∷ 4294967295 ∷ []) ∷ (502 ∷ 2147483648 ∷ []) ∷ [] }
+    ∷ record { set = 12; rows = (7 ∷ 4294967295 ∷ []) ∷ (8 ∷ 2147483648 ∷ []) ∷ [] }
+    ∷ []
+
 -- ---- kept sets and joins
 
 pub record Trial : Type 0 where
@@ -126,6 +133,8 @@ trials =
     ∷ record { gives = part kinds gap 6; says = [] }
     ∷ record { gives = part kinds gap 2; says = (501 ∷ []) ∷ [] }
     ∷ record { gives = joinRows kinds gap 2; says = [] }
+    -- tables that share DEPTH, a length: -1 matches itself, -2,147,483,648 is missing
+    ∷ record { gives = part kinds depths 6; says = (501 ∷ 7 ∷ []) ∷ [] }
     -- a missing cell under an attribute of one object
     ∷ record { gives = part kinds (leadOnly ∷ []) 3; says = (4294967295 ∷ 501 ∷ []) ∷ [] }
     ∷ record { gives = part kinds ownGap 10; says = (501 ∷ 2147483648 ∷ []) ∷ [] }
@@ -133,9 +142,9 @@ trials =
     ∷ []
 
 pub trials-hold : map (λ t. t .gives) trials ≡ map (λ t. t .says) trials
-unfolding trials survey paired apart gap ownGap kinds missing part joinRows goingOn eachPassing matchesAll rowsMatch
-    allPass together shown project projected cellOf shownRows kept keptOf keeps goes goesFor left settle staying stays
-    removable someHolds around union bit has within _∩_ _∪_ single isEmpty rank members matches
+unfolding trials survey paired apart gap ownGap depths kinds missing part joinRows goingOn eachPassing matchesAll
+    rowsMatch allPass together shown project projected cellOf shownRows kept keptOf keeps goes goesFor left settle
+    staying stays removable someHolds around union bit has within _∩_ _∪_ single isEmpty rank members matches
 trials-hold = refl
 
 -- ---- the objects that may stand

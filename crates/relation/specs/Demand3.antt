@@ -13,7 +13,7 @@ use Prim.Native.Nat.{ℕ}
 use Rattle.reduction.specs.Statements.{KeptByEveryList}
 use Rattle.relation.specs.Tables.{Row, Table, family}
 use Rattle.relation.specs.Joins.{AgreePairwise, NoneMissing, InFullJoin, StandFor, keptSets, InKeptJoin}
-use Rattle.relation.specs.Statements.{UnionOfChoices}
+use Rattle.relation.specs.Statements.{UnionOfChoices, PartHolds}
 
 pub record Demand3 (kinds : List ℕ) (Ts : List Table) (X : ℕ) : Type 0 where
   -- "ends with exactly the program's kept sets, each once": "equal to them as a set of attribute sets, with none left
@@ -22,6 +22,9 @@ pub record Demand3 (kinds : List ℕ) (Ts : List Table) (X : ℕ) : Type 0 where
   -- request 2: what the program computes for M, its part, is exactly the union of the joins over all choices, and
   -- there is a choice, so that what follows is not empty
   pub programsUnion : UnionOfChoices kinds Ts X
+  -- the same of M's part itself: it has every row of the full join on X, and is equal to it where the tables agree
+  -- pairwise and no missing cell stands under an attribute of two of them
+  pub programsPart : PartHolds kinds Ts X
   -- "Whichever object of the maximal object stands for each kept set, the join over those kept sets has every row of
   -- the full join on the wanted columns"
   pub everyRow : (cs : List ℕ) → StandFor Ts (keptSets Ts X) cs → (row : Row) → InFullJoin kinds Ts X row

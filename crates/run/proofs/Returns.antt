@@ -34,8 +34,9 @@ use Rattle.printout.proofs.Theorems.{text-printed, answer-printed, room-enough}
 use Rattle.run.specs.declared.Stepped.{Stepped}
 use Rattle.run.specs.declared.ItemKinds.{ItemKinds}
 use Rattle.run.specs.Running.{room, numberOf, kindsOf, fullText, textOf, openingText, bytesOf, openingOf, stepOf}
-use Rattle.run.specs.Items.{GoodQuery, KindsOf, itemKindsOf, ItemKindsOf}
+use Rattle.run.specs.Items.{GoodQuery, KindsOf, NoKinds, itemKindsOf, ItemKindsOf}
 use Rattle.run.proofs.Answering.{answered-prints}
+use Rattle.run.proofs.Items.{none-of-book, none-of-query, those-of-items}
 use Rattle.run.proofs.Stepping.{step-answered, step-refused, text-answered, text-refused, goes, below-256}
 
 -- ---- a text that has room
@@ -138,18 +139,15 @@ kinds-found {q = q} g m w u =
 
 -- the items of a query over the bytes of a book
 module _ (b : List ℕ) {book : Book} (e : book ≡ bookOf (read b)) (q : List ℕ) where
-  none-are : {k : ItemKinds} → (k .items ≡ 0) × (length (k .kinds) ≡ 8) → itemKindsOf b q ≡ [] → ItemKindsOf b q k
+  none-are : {k : ItemKinds} → NoKinds k → itemKindsOf b q ≡ [] → ItemKindsOf b q k
   none-are {k} z n = record {
     long = z .1;
     few = omega (arith, z .0);
     are = ap (λ (i : ℕ). take i (k .kinds)) (z .0) ∙ sym n;
   }
 
-  pub kinds-no-book : {k : ItemKinds} → (book .refusal ≡ 0 → ⊥) → (k .items ≡ 0) × (length (k .kinds) ≡ 8)
-      → ItemKindsOf b q k
-  unfolding itemKindsOf
-  kinds-no-book d z =
-      none-are z (rw (itemKindsOf, ne-eqb (read b .number) 0 (λ y. d (number-is b e ∙ y))))
+  pub kinds-no-book : {k : ItemKinds} → (book .refusal ≡ 0 → ⊥) → NoKinds k → ItemKindsOf b q k
+  kinds-no-book d z = none-are z (none-of-book b q (λ y. d (number-is b e ∙ y)))
 
   module _ (y : book .refusal ≡ 0) {maximal : List ℕ} {query : Query}
       (m : maximal ≡ take (book .maximals) (book .maximal))
@@ -157,15 +155,8 @@ module _ (b : List ℕ) {book : Book} (e : book ≡ bookOf (read b)) (q : List �
     good-number : read b .number ≡ 0
     good-number = sym (number-is b e) ∙ y
 
-    pub kinds-no-query : {k : ItemKinds} → (query .refusal ≡ 0 → ⊥) → (k .items ≡ 0) × (length (k .kinds) ≡ 8)
-        → ItemKindsOf b q k
-    unfolding itemKindsOf
-    kinds-no-query d z =
-        none-are z (rw (
-          itemKindsOf,
-          eq-eqb (read b .number) 0 good-number,
-          ne-eqb (queryRead (read b) q .number) 0 (λ x. d (good-query b e good-number q m w x)),
-        ))
+    pub kinds-no-query : {k : ItemKinds} → (query .refusal ≡ 0 → ⊥) → NoKinds k → ItemKindsOf b q k
+    kinds-no-query d z = none-are z (none-of-query b q (λ x. d (good-query b e good-number q m w x)))
 
     pub query-there : query .refusal ≡ 0 → GoodQuery book q
     query-there x = record {
@@ -176,16 +167,10 @@ module _ (b : List ℕ) {book : Book} (e : book ≡ bookOf (read b)) (q : List �
     }
 
     pub kinds-there : {k : ItemKinds} → query .refusal ≡ 0 → KindsOf book q k → ItemKindsOf b q k
-    unfolding itemKindsOf
     kinds-there x k = record {
       long = k .long;
       few = k .few;
-      are =
-          k .each b e good-number ∙ sym (rw (
-            itemKindsOf,
-            eq-eqb (read b .number) 0 good-number,
-            eq-eqb (queryRead (read b) q .number) 0 (query-good b e good-number q m w x),
-          ));
+      are = k .each b e good-number ∙ sym (those-of-items b q good-number (query-good b e good-number q m w x));
     }
 
 -- ---- a step

@@ -8,7 +8,7 @@ use mathlib.Core.List.{List, [], _∷_, _++_}
 use Prim.Native.Nat.{ℕ, zero, suc, _+_, _≤_, _<_, _^_}
 use native.Mathlib.Nat.{not-suc-le-zero, le-refl}
 use native.Mathlib.Omega.{arith}
-use borrow.Author.Tests.{eqb-true, eqb-false, eq-eqb, ne-eqb}
+use borrow.Author.Tests.{eqb-true, eqb-false, eq-eqb, ne-eqb, lt-ltb, le-ltb}
 use lib.Dec.{eqb, ltb}
 use lib.ListN.{length, drop, replicate, length-drop, length-replicate}
 use Rattle.sets.proofs.Tests.{yes-no, yes-or-no}
@@ -238,6 +238,18 @@ module _ (b : List ℕ) where
         by true true m = absurd (yes-no m refl)
         by true false m = refl
 
+    book-only : (n : ℕ) → 0 < n → read b .number ≡ n → printout b input ≡ bookRefused n
+    unfolding printout
+    book-only n h e = rw (printout, ne-eqb (read b .number) 0 (λ z. omega (arith, h, e, z))) (ap bookRefused e)
+
+    long-only : read b .number ≡ 0 → 65536 < length input → printout b input ≡ queryRefused 1
+    unfolding printout
+    long-only z l = rw (printout, eq-eqb (read b .number) 0 z, lt-ltb 65536 (length input) l)
+
+    going : read b .number ≡ 0 → length input ≤ 65536 → Going
+    unfolding openingOf
+    going z l = ap₂ goes (eq-eqb (read b .number) 0 z) (le-ltb 65536 (length input) l)
+
     pub run-prints : RunPrints b input
     unfolding answers
     run-prints = record {
@@ -246,4 +258,12 @@ module _ (b : List ℕ) where
       steps = λ m. subst (Steps b input 0) (printed-answers m) (steps-within (length input) input 0 (le-refl (length input)));
       only = λ m text s. only-within s (length input) (le-refl (length input)) ∙ printed-answers m;
       counted = text-counted b;
+      refusedBook = book-only;
+      tooLong = long-only;
+      answered = λ z l.
+          let m = going z l in
+          subst (Steps b input 0) (printed-answers m) (steps-within (length input) input 0 (le-refl (length input)));
+      stepAnswered = λ q serial z. sym (text-answered b q serial z);
+      stepRefused = λ q serial n h e.
+          sym (text-refused b q serial (λ z. omega (arith, h, e, z))) ∙ ap queryRefused e;
     }

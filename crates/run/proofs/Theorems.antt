@@ -3,11 +3,13 @@
 use mathlib.Core.Path.{_≡_}
 use mathlib.Core.List.{List}
 use Prim.Native.Nat.{ℕ, _<_, _^_}
+use native.Mathlib.Omega.{arith}
 use lib.ListN.{length}
 use Rattle.run.specs.Running.{room, numberOf}
-use Rattle.run.specs.Statements.{AnsweredPrints, StepInside, OpeningInside, RunPrints}
+use Rattle.run.specs.Statements.{AnsweredPrints, StepInside, OpeningInside, KindsGiven, RunPrints}
 use Rattle.run.proofs.Answering as Answering
 use Rattle.run.proofs.Stepping as Stepping
+use Rattle.run.proofs.Items.{none-of-book, none-of-query, those-of-items}
 
 -- ---- one query
 
@@ -20,6 +22,15 @@ step-inside = Stepping.step-inside
 
 pub opening-inside : (refusal input : ℕ) → OpeningInside refusal input
 opening-inside = Stepping.opening-inside
+
+-- ---- the value kinds of its items
+
+pub kinds-given : (b q : List ℕ) → KindsGiven b q
+kinds-given b q = record {
+  refusedBook = λ h. none-of-book b q (λ z. omega (arith, h, z));
+  refusedQuery = λ h. none-of-query b q (λ z. omega (arith, h, z));
+  good = those-of-items b q;
+}
 
 -- ---- the printout
 

@@ -30,6 +30,10 @@ pub record KindsOf (book : Book) (q : List ℕ) (k : ItemKinds) : Type 0 where
 
 -- ---- the bytes of a book
 
+-- no items
+abbrev pub NoKinds : ItemKinds → Type 0
+NoKinds k = (k .items ≡ 0) × (length (k .kinds) ≡ 8)
+
 -- none where the book or the query is refused for itself
 unfoldable pub itemKindsOf : List ℕ → List ℕ → List ℕ
 itemKindsOf b q =

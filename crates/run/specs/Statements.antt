@@ -1,5 +1,5 @@
 -- What is proved of a run, for the bytes of any book and any input. The proofs are in `proofs/Theorems.antt`.
--- In order: one query, step after step, the printout.
+-- In order: one query, the value kinds of its items, step after step, the printout.
 -- Assumes nothing.
 use mathlib.Core.Path.{_≡_}
 use mathlib.Core.Bool.{true, false}
@@ -7,9 +7,11 @@ use mathlib.Core.List.{List, [], _∷_, _++_}
 use Prim.Native.Nat.{ℕ, _+_, _≤_, _<_, _^_}
 use lib.ListN.{length, drop}
 use Rattle.book.specs.Reading.{read}
-use Rattle.connection.specs.Answering.{queryRead, rowsOf, spaceAfter}
-use Rattle.printout.specs.Lines.{answerText, FitToPrint}
+use Rattle.connection.specs.Answers.{itemKinds}
+use Rattle.connection.specs.Answering.{queryRead, rowsOf, number, spaceAfter}
+use Rattle.printout.specs.Lines.{answerText, bookRefused, queryRefused, FitToPrint}
 use Rattle.run.specs.Running.{kindsOf, fullText, textOf, openingText, printout, openingOf, stepOf}
+use Rattle.run.specs.Items.{itemKindsOf}
 
 -- ---- one query
 
@@ -35,6 +37,15 @@ pub record StepInside (b q : List ℕ) (serial : ℕ) : Type 0 where
 pub record OpeningInside (refusal input : ℕ) : Type 0 where
   pub printed : refusal < 256 → openingOf refusal input .printed ≤ 98327
   pub good : openingOf refusal input .more ≡ true → refusal ≡ 0
+
+-- ---- the value kinds of its items: none where the book is refused or the query is refused for itself, else those of
+-- all its items in their order
+
+pub record KindsGiven (b q : List ℕ) : Type 0 where
+  pub refusedBook : 0 < read b .number → itemKindsOf b q ≡ []
+  pub refusedQuery : 0 < queryRead (read b) q .number → itemKindsOf b q ≡ []
+  pub good : read b .number ≡ 0 → queryRead (read b) q .number ≡ 0
+      → itemKindsOf b q ≡ itemKinds (read b) (queryRead (read b) q .records)
 
 -- ---- step after step
 
@@ -62,5 +73,15 @@ pub record RunPrints (b input : List ℕ) : Type 0 where
   pub steps : openingOf (read b .number) (length input) .more ≡ true → Steps b input 0 (printout b input)
   pub only : openingOf (read b .number) (length input) .more ≡ true
       → (text : List ℕ) → Steps b input 0 text → text ≡ printout b input
+  -- "A refused book prints `book refused N` only"
+  pub refusedBook : (n : ℕ) → 0 < n → read b .number ≡ n → printout b input ≡ bookRefused n
+  -- "Standard input over 65,536 bytes in all prints `query refused 1` only, if the book is good."
+  pub tooLong : read b .number ≡ 0 → 65536 < length input → printout b input ≡ queryRefused 1
+  -- "It answers queries until the bytes are used up or one is refused."
+  pub answered : read b .number ≡ 0 → length input ≤ 65536 → Steps b input 0 (printout b input)
+  -- "with a space of 8,192 cells": of a step, its answer or "a refused query `query refused N`"
+  pub stepAnswered : (q : List ℕ) (serial : ℕ) → number b q serial 8192 ≡ 0 → textOf b q serial ≡ fullText b q serial
+  pub stepRefused : (q : List ℕ) (serial n : ℕ) → 0 < n → number b q serial 8192 ≡ n
+      → textOf b q serial ≡ queryRefused n
   -- what is printed for each step is as many bytes as it says
   pub counted : (q : List ℕ) (serial : ℕ) → stepOf b q serial .printed ≡ length (textOf b q serial)

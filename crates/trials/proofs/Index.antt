@@ -1,157 +1,72 @@
--- The names that docs/STATEMENTS.md gives. A name that is only imported is refused here once it is gone; a theorem that
--- stands below as a typed line is refused as soon as it says something else, too.
--- In order: contracts and theorems, imported; then as typed lines the three demands, each as one statement of the whole
--- program; what the unit prints; and apart, demand 2 for books, for queries and for answers, demand 3, the comparison
--- table.
+-- What the main theorems say, as typed lines: one that says something else is refused here, and so is a record that has
+-- lost a field. `Names` has the names of all others that docs/STATEMENTS.md gives.
+-- In order: the three demands, each as one statement of the whole program; each by its fields; what books and queries
+-- say; what the unit prints. The requests are in `Requests`.
 -- Assumes nothing.
+use mathlib.Core.List.{List, List·Memᴰ, [], _++_, map}
 use mathlib.Core.Path.{_≡_}
-use mathlib.Core.List.{List, List·Memᴰ}
-use Prim.Native.Nat.{ℕ}
-use Rattle.sets.specs.Sets.{_∈_, _⊆_}
-use Rattle.reduction.specs.Steps.{Family}
-use Rattle.reduction.specs.Kept.{union}
-use Rattle.reduction.specs.Statements.{OfAttributes, KeptByEveryList}
-use Rattle.relation.specs.Tables.{Table, family}
-use Rattle.relation.specs.Demand3.{Demand3}
+use mathlib.Core.Logic.{_↔_, _⊎_}
+use mathlib.Core.Bool.{true, Bool, false}
+use Prim.Native.Nat.{ℕ, _<_, _^_, _≤_, _+_}
+use lib.ListN.{length, drop, getD}
+use Rattle.sets.specs.Sets.{_∈_, _⊆_, single, members}
+use Rattle.values.specs.Operators.{holds}
 use Rattle.records.specs.declared.Record.{Record}
+use Rattle.records.specs.Checks.{First}
+use Rattle.reduction.specs.Statements.{LiesIn, OfAttributes, KeptByEveryList}
+use Rattle.reduction.specs.Steps.{NoneTwice, at, Family, Step, Complete, NodePermits, SameSets, leaves, CoverPermits}
+use Rattle.reduction.specs.Kept.{kept, union}
+use Rattle.reduction.proofs.Theorems.{kept-by-every-list}
+use Rattle.relation.specs.Tables.{Row, project, Table, family}
+use Rattle.relation.specs.Demand3.{Demand3}
+use Rattle.relation.specs.Joins.{keptSets, shownRows, InPart, StandFor, InFullJoin, InKeptJoin, AgreePairwise}
+use Rattle.relation.specs.Joins.{NoneMissing}
+use Rattle.relation.specs.Statements.{UnionOfChoices, PartHolds}
+use Rattle.relation.proofs.Theorems.{demand3}
+use Rattle.scheme.specs.Statements.{JoinsByTheRule, GrownInEveryOrder, ComputedList, MaximalObjectList, Bounded}
+use Rattle.scheme.specs.Statements.{Shared, LowestStart, LeavesOut, ByFirstPlace, SomeObjects}
+use Rattle.scheme.specs.OfScheme.{dependenciesOf, declaredOf, removedOf, maximalOf}
+use Rattle.scheme.specs.Dependencies.{Dependency, LeastClosed}
+use Rattle.scheme.specs.Growing.{joins, Holding, grown, attributesOf}
+use Rattle.scheme.specs.MaximalObjects.{computed, maximalObjects}
 use Rattle.scheme.specs.declared.Scheme.{Scheme}
-use Rattle.values.specs.Statements.{TableAllows}
-use Rattle.query.specs.Statements as QueryStatements
-use Rattle.scheme.specs.Growing.{attributesOf}
-use Rattle.scheme.specs.OfScheme.{maximalOf}
-use Rattle.book.specs.Reading.{Outcome, read}
-use Rattle.connection.specs.Answering.{queryRead}
-use Rattle.connection.specs.Statements.{AnswerListed, CombinationsGive}
-use Rattle.connection.specs.Outcomes.{AnswerNumberMeans, Demand1, PromiseE}
-use Rattle.run.specs.Statements.{RunPrints}
-use Rattle.book.specs.Accepting.{Accepted}
-use Rattle.book.specs.Statements.{FaultMeans, ReadExactly, NumberMeans, AcceptedSay, RowInBytes, MaximalObjectsRead}
-use Rattle.book.specs.Statements.{TablesOfBook, MaximalObjectsOfBook}
--- ---- contracts: each is that the function meets its `ensures` for all inputs
-use Rattle.sets.proofs.has.Met.{met as sets-has}
-use Rattle.sets.proofs.within.Met.{met as sets-within}
-use Rattle.sets.proofs.within_each.Met.{met as sets-within-each}
-use Rattle.sets.proofs.intersection.Met.{met as sets-intersection}
-use Rattle.sets.proofs.union.Met.{met as sets-union}
-use Rattle.sets.proofs.difference.Met.{met as sets-difference}
-use Rattle.sets.proofs.single.Met.{met as sets-single}
-use Rattle.sets.proofs.insert.Met.{met as sets-insert}
-use Rattle.sets.proofs.remove.Met.{met as sets-remove}
-use Rattle.sets.proofs.is_empty.Met.{met as sets-is-empty}
-use Rattle.sets.proofs.count.Met.{met as sets-count}
-use Rattle.sets.proofs.rank.Met.{met as sets-rank}
-use Rattle.sets.proofs.lowest.Met.{met as sets-lowest}
-use Rattle.values.proofs.missing.Met.{met as values-missing}
-use Rattle.values.proofs.in_range.Met.{met as values-in-range}
-use Rattle.values.proofs.key.Met.{met as values-key}
-use Rattle.values.proofs.less.Met.{met as values-less}
-use Rattle.values.proofs.built_in.Met.{met as values-built-in}
-use Rattle.values.proofs.allowed.Met.{met as values-allowed}
-use Rattle.values.proofs.keeps_rules.Met.{met as values-keeps-rules}
-use Rattle.values.proofs.holds.Met.{met as values-holds}
-use Rattle.values.proofs.matching.Met.{met as values-matching}
-use Rattle.records.proofs.wide.Met.{met as records-wide}
-use Rattle.records.proofs.byte_at.Met.{met as records-byte-at}
-use Rattle.records.proofs.word_at.Met.{met as records-word-at}
-use Rattle.records.proofs.is_kind.Met.{met as records-is-kind}
-use Rattle.records.proofs.of_book.Met.{met as records-of-book}
-use Rattle.records.proofs.of_query.Met.{met as records-of-query}
-use Rattle.records.proofs.body_length.Met.{met as records-body-length}
-use Rattle.records.proofs.masks_of.Met.{met as records-masks-of}
-use Rattle.records.proofs.read.Met.{met as records-read}
-use Rattle.reduction.proofs.union_of.Met.{met as reduction-union-of}
-use Rattle.reduction.proofs.is_removable.Met.{met as reduction-is-removable}
-use Rattle.reduction.proofs.shrink.Met.{met as reduction-shrink}
-use Rattle.reduction.proofs.attributes_left.Met.{met as reduction-attributes-left}
-use Rattle.reduction.proofs.is_kept.Met.{met as reduction-is-kept}
-use Rattle.reduction.proofs.maximal_sets.Met.{met as reduction-maximal-sets}
-use Rattle.reduction.proofs.kept_sets.Met.{met as reduction-kept-sets}
-use Rattle.reduction.proofs.is_acyclic.Met.{met as reduction-is-acyclic}
-use Rattle.relation.proofs.cell.Met.{met as relation-cell}
-use Rattle.scheme.proofs.first.Met.{met as scheme-first}
-use Rattle.scheme.proofs.closure.Met.{met as scheme-closure}
-use Rattle.scheme.proofs.family_of.Met.{met as scheme-family-of}
-use Rattle.scheme.proofs.attributes_of.Met.{met as scheme-attributes-of}
-use Rattle.scheme.proofs.grow.Met.{met as scheme-grow}
-use Rattle.scheme.proofs.computed.Met.{met as scheme-computed}
-use Rattle.scheme.proofs.maximal_objects.Met.{met as scheme-maximal-objects}
-use Rattle.book.proofs.read.Met.{met as book-read}
-use Rattle.query.proofs.read.Met.{met as query-read}
-use Rattle.sorted.proofs.less_row.Met.{met as sorted-less-row}
-use Rattle.sorted.proofs.put.Met.{met as sorted-put}
-use Rattle.sorted.proofs.seek.Met.{met as sorted-seek}
-use Rattle.sorted.proofs.sort.Met.{met as sorted-sort}
-use Rattle.seen.proofs.is_there.Met.{met as seen-is-there}
-use Rattle.seen.proofs.remember.Met.{met as seen-remember}
-use Rattle.search.proofs.search.Met.{met as search-search}
-use Rattle.terms.proofs.terms_of.Met.{met as terms-terms-of}
-use Rattle.plan.proofs.columns_of.Met.{met as plan-columns-of}
-use Rattle.plan.proofs.lay_level.Met.{met as plan-lay-level}
-use Rattle.plan.proofs.own_of.Met.{met as plan-own-of}
-use Rattle.plan.proofs.plan_object.Met.{met as plan-plan-object}
-use Rattle.connection.proofs.refused.Met.{met as connection-refused}
-use Rattle.choices.proofs.nothing_planned.Met.{met as choices-nothing-planned}
-use Rattle.choices.proofs.choose.Met.{met as choices-choose}
-use Rattle.answer.proofs.answer_book.Met.{met as answer-answer-book}
-use Rattle.answer.proofs.answer_bytes.Met.{met as answer-answer-bytes}
-use Rattle.printout.proofs.print_answer.Met.{met as printout-print-answer}
-use Rattle.printout.proofs.print_text.Met.{met as printout-print-text}
-use Rattle.printout.proofs.print_book_refusal.Met.{met as printout-print-book-refusal}
-use Rattle.printout.proofs.print_query_refusal.Met.{met as printout-print-query-refusal}
-use Rattle.run.proofs.opening.Met.{met as run-opening}
-use Rattle.run.proofs.step.Met.{met as run-step}
-use Rattle.run.proofs.item_kinds.Met.{met as run-item-kinds}
-use Rattle.host.proofs.vingarbu_answer.Met.{met as host-vingarbu-answer}
-use Rattle.host.proofs.vingarbu_kinds.Met.{met as host-vingarbu-kinds}
-use Rattle.host.proofs.vingarbu_print.Met.{met as host-vingarbu-print}
-use Rattle.host.proofs.vingarbu_refusal_text.Met.{met as host-vingarbu-refusal-text}
--- ---- theorems
-use Rattle.sets.proofs.Theorems.{members-of-sets, equal-sets, containment, rank-and-count, lowest-member}
-use Rattle.sets.proofs.Theorems.{members-listed, plain-containment}
-use Rattle.values.proofs.Theorems.{missing-cells, ordered-by-value, ordered-across, matches-mean, operators-mean}
-use Rattle.values.proofs.Theorems.{table-allows, rules-are-tested, built-in-table-keeps, allowed-means, turned}
-use Rattle.values.proofs.Examples.{trials-hold as values-trials-hold}
-use Rattle.records.proofs.Theorems.{fields-inverse, kind-then-body, reads-back, was-written, answers-mean, walk-exactly}
-use Rattle.records.proofs.Examples.{examples-written, examples-read}
-use Rattle.reduction.proofs.Theorems.{node-form-permits, cover-form-permits, steps-in-family, step-leaves}
-use Rattle.reduction.proofs.Theorems.{kept-by-every-list, cover-order, reduces-to-nothing, kept-set-laws}
-use Rattle.reduction.proofs.Examples.{examples-hold, triangle-is-cyclic, filled-triangle-is-acyclic}
-use Rattle.reduction.proofs.Examples.{station-by-node-steps, station-by-cover-steps, leads-and-trips-by-steps}
-use Rattle.reduction.proofs.Examples.{customers-and-banks-by-node-steps, customers-and-banks-by-cover-steps}
-use Rattle.relation.proofs.Theorems.{nothing-shared, agreement-by-clauses, every-row, no-other-row, join-computed}
-use Rattle.relation.proofs.Theorems.{part-computed, union-of-choices, part-holds, demand3}
-use Rattle.scheme.proofs.Theorems.{closure-is-least, closure-is-monotone, object-joins-by-the-rule, grown-is-least}
-use Rattle.scheme.proofs.Theorems.{grown-is-the-same-in-every-order}
-use Rattle.scheme.proofs.Theorems.{computed-is-the-list, removing-removes, adding-adds, both-is-a-fault}
-use Rattle.scheme.proofs.Theorems.{cyclic-is-a-fault}
+use Rattle.scheme.proofs.Theorems.{object-joins-by-the-rule, grown-is-the-same-in-every-order, computed-is-the-list}
 use Rattle.scheme.proofs.Theorems.{maximal-objects-are-the-list}
-use Rattle.scheme.proofs.Examples.{trials-hold as scheme-trials-hold}
+use Rattle.book.specs.Statements.{NineMeans, StopsWith, RecordNumber, FaultyRecord, AcceptedWhole, OnlyACycle}
+use Rattle.book.specs.Statements.{ReadExactly, NumberMeans, AcceptedSay, RowInBytes, MaximalObjectsRead, TablesOfBook}
+use Rattle.book.specs.Statements.{MaximalObjectsOfBook}
+use Rattle.book.specs.Reading.{read, Outcome as BookOutcome}
+use Rattle.book.specs.Faults.{faultOf}
+use Rattle.book.specs.Conditions.{conditions}
+use Rattle.book.specs.Declaring.{nothingDeclared}
+use Rattle.book.specs.TablesOf.{tablesOf}
+use Rattle.book.specs.Accepting.{Accepted}
 use Rattle.book.proofs.Theorems.{fault-means, read-exactly, number-means, accepted-say, row-in-bytes}
-use Rattle.book.proofs.Theorems.{scheme-well-formed}
-use Rattle.book.proofs.Theorems.{maximal-objects-read, tables-of-book, maximal-objects-of-book}
-use Rattle.book.proofs.Examples.{trials-hold as book-trials-hold, layouts-hold}
-use Rattle.relation.proofs.Examples.{trials-hold, each-may-stand, paired-agree, survey-disagrees, empty-tables-agree}
-use Rattle.relation.proofs.Examples.{leads-and-no-trips-disagree, apart-disagrees, gap-agrees, gap-adds-a-row}
-use Rattle.relation.proofs.Examples.{own-gap-agrees, own-gap-none-missing, own-gap-equal}
+use Rattle.book.proofs.Theorems.{maximal-objects-read, tables-of-book, maximal-objects-of-book, nine-means}
+use Rattle.query.specs.Asking.{itemsOf}
+use Rattle.query.specs.Accepting.{NamedIn, StopsWith as QueryStopsWith}
+use Rattle.query.specs.Faults.{faultOf as queryFault}
+use Rattle.query.specs.Conditions.{conditions as queryConditions}
+use Rattle.query.specs.Reading.{read as readQuery, refusedWith, Outcome as QueryOutcome}
+use Rattle.query.specs.Statements.{FaultyRecord as QueryFaultyRecord, Unended, Ended}
+use Rattle.query.proofs.Theorems.{records-ask, containing-is-the-list}
+use Rattle.sorted.specs.Rows.{rowsIn, Ascending, AllOfKinds}
+use Rattle.plan.specs.Planned.{keptFor, Shows}
+use Rattle.connection.specs.Outcomes.{Outcome, itemCount, cellsNeeded, Good, MoreSerials, AnswerNumberMeans, Demand1}
+use Rattle.connection.specs.Outcomes.{PromiseE}
+use Rattle.connection.specs.Answering.{answerOf, spaceAfter, number, rowsOf, queryRead, lastSerial}
+use Rattle.connection.specs.declared.Answer.{Answer}
+use Rattle.connection.specs.Statements.{NamesInRange, AnswerListed, CombinationsGive}
+use Rattle.connection.specs.Answers.{answerRows, InAnswer, itemKinds, Combination, Passes, itemCells, combined}
+use Rattle.connection.specs.Fitting.{tableOf, FitsObject}
+use Rattle.connection.proofs.Theorems.{names-in-range, answer-listed, combinations-give, answer-number-means, demand1}
+use Rattle.connection.proofs.Theorems.{promise-e}
+use Rattle.printout.specs.Lines.{bookRefused, queryRefused}
+use Rattle.run.specs.Running.{openingOf, printout, openingText, textOf, fullText, stepOf}
+use Rattle.run.specs.Statements.{Steps}
+use Rattle.run.proofs.Theorems.{run-prints}
+use Rattle.query.specs.Statements as QueryStatements
 use Rattle.query.proofs.Theorems as Queries
-use Rattle.query.proofs.Theorems.{records-ask, containing-is-the-list, accepted-fits}
-use Rattle.query.proofs.Examples.{trials-hold as query-trials-hold}
-use Rattle.sorted.proofs.Theorems.{rows-ordered, determined-by-members, row-more, rows-more, rows-sorted}
-use Rattle.sorted.proofs.Theorems.{ascending-by-first-columns, next-same}
-use Rattle.sorted.proofs.Examples.{trials-hold as sorted-trials-hold}
-use Rattle.search.proofs.Theorems.{combinations-fit, fill-means, live-decides}
-use Rattle.search.proofs.Examples.{trials-hold as search-trials-hold, between-holds}
-use Rattle.plan.proofs.Theorems.{rows-read, rows-apart}
-use Rattle.connection.proofs.Theorems.{names-in-range, connection-listed, answer-listed, combinations-give, answer-fits}
-use Rattle.connection.proofs.Theorems.{answer-in-range}
-use Rattle.connection.proofs.Theorems.{one-kept-set, answer-number-means, demand1, promise-e}
-use Rattle.connection.proofs.Examples.{outcomes-hold, rows-hold}
-use Rattle.choices.proofs.Theorems.{same-rows-either-way}
-use Rattle.printout.proofs.Theorems.{in-decimal, cells-read, texts-read, fit-tested, text-printed, answer-printed}
-use Rattle.printout.proofs.Theorems.{room-enough}
-use Rattle.printout.proofs.Examples.{trials-hold as printout-trials-hold}
-use Rattle.run.proofs.Theorems.{answered-prints, step-inside, opening-inside, run-prints}
-use Rattle.trials.proofs.Starred.{starred-hold, runs-hold, dated-runs-hold, gap-runs-hold}
 
 -- ---- the three demands, for the bytes b of any book and q of any query
 
@@ -169,6 +84,7 @@ pub record Demand2 (b q : List ℕ) (serial room : ℕ) : Type 0 where
   pub answerRows : AnswerListed b (queryRead (read b) q .records)
   pub combinations : CombinationsGive b (queryRead (read b) q .records)
   pub refusalsOfBooks : ReadExactly b × NumberMeans b
+  pub cycles : NineMeans b
   pub refusalsOfQueries : QueryStatements.ReadExactly (read b .scheme) (maximalOf (read b .scheme)) q
       × QueryStatements.NumberMeans (read b .scheme) (maximalOf (read b .scheme)) q
   pub refusals : AnswerNumberMeans b q serial room
@@ -180,6 +96,7 @@ demand-2 b q serial room = record {
   answerRows = answer-listed b (queryRead (read b) q .records) (names-in-range b q);
   combinations = combinations-give b (queryRead (read b) q .records) (names-in-range b q);
   refusalsOfBooks = (read-exactly b, number-means b);
+  cycles = nine-means b;
   refusalsOfQueries = (
     Queries.read-exactly (read b .scheme) (maximalOf (read b .scheme)) q,
     Queries.number-means (read b .scheme) (maximalOf (read b .scheme)) q,
@@ -193,24 +110,325 @@ pub demand-3 : (b : List ℕ) → read b .number ≡ 0 → (M : ℕ) → List·M
     → (a : ℕ) × (a ∈ X) → X ⊆ attributesOf (read b .scheme .sets) M → PromiseE b M X
 demand-3 = promise-e
 
--- ---- what the unit prints: step after step exactly the printout, and it ends
+-- ---- demand 1, for the bytes b of any book and q of any query, any serial and space
 
-pub printed-by-the-unit : (b input : List ℕ) → RunPrints b input
-printed-by-the-unit = run-prints
+-- "comes to an end with either a full answer or one refusal of the fixed list, chosen by the fixed order, and every
+-- cell of the answer space is accounted for in both"
+module _ (b q : List ℕ) (serial : ℕ) (space : List ℕ) where
+  pub demand-1-there : Outcome b q serial space (answerOf b q serial (length space)) (spaceAfter b q serial space)
+  demand-1-there = demand1 b q serial space .there
 
--- ---- demand 2 for books
+  pub demand-1-only : (a : Answer) (after : List ℕ) → Outcome b q serial space a after
+      → (a ≡ answerOf b q serial (length space)) × (after ≡ spaceAfter b q serial space)
+  demand-1-only = demand1 b q serial space .only
+
+  pub demand-1-as-many : length (spaceAfter b q serial space) ≡ length space
+  demand-1-as-many = demand1 b q serial space .asMany
+
+  pub demand-1-front : number b q serial (length space) ≡ 0
+      → rowsIn (itemCount b q) (length (rowsOf b q)) (spaceAfter b q serial space) ≡ rowsOf b q
+  demand-1-front = demand1 b q serial space .front
+
+  pub demand-1-behind : number b q serial (length space) ≡ 0
+      → drop (cellsNeeded b q) (spaceAfter b q serial space) ≡ drop (cellsNeeded b q) space
+  demand-1-behind = demand1 b q serial space .behind
+
+-- ---- demand 2: "The maximal objects, the sets kept by Graham reduction with sacred columns, and the answer rows are
+-- exactly those of the definitions"
+
+-- maximal objects, for the scheme of any book
+module _ (b : List ℕ) where
+  pub maximal-objects-joining : (H : ℕ) → H < 2 ^ 32 → (k : ℕ)
+      → JoinsByTheRule (dependenciesOf (read b .scheme)) (read b .scheme .sets) H k
+  maximal-objects-joining = maximal-objects-read b .joining
+
+  pub maximal-objects-growing : (start : ℕ) → start ∈ read b .scheme .objects
+      → GrownInEveryOrder (dependenciesOf (read b .scheme)) (read b .scheme .sets) (read b .scheme .objects) start
+  maximal-objects-growing = maximal-objects-read b .growing
+
+  pub maximal-objects-computed : ComputedList (dependenciesOf (read b .scheme)) (read b .scheme .sets) (read b
+      .scheme .objects)
+  maximal-objects-computed = maximal-objects-read b .computed
+
+  pub maximal-objects-list : MaximalObjectList (dependenciesOf (read b .scheme)) (read b .scheme .sets) (read b
+      .scheme .objects) (read b .scheme .only) (declaredOf (read b .scheme)) (removedOf (read b .scheme))
+  maximal-objects-list = maximal-objects-read b .list
+
+-- what these four say, by their fields, for dependencies D, objects and their sets
+module _ (D : List Dependency) (sets : List ℕ) (objects : ℕ) (o : Bounded D sets objects) (H : ℕ) (below : H < 2 ^
+    32) (k : ℕ) where
+  abbrev pub joins-shares : ℕ
+  joins-shares = object-joins-by-the-rule D sets objects o H below k .shares
+
+  pub joins-is-shared : (a : ℕ) → (a ∈ joins-shares) ↔ Shared sets H k a
+  joins-is-shared = object-joins-by-the-rule D sets objects o H below k .isShared
+
+  pub joins-exactly : (C : ℕ) → LeastClosed D joins-shares C → (joins D sets H k ≡ true) ↔ (getD sets k 0 ⊆ C)
+  joins-exactly = object-joins-by-the-rule D sets objects o H below k .exactly
+
+  pub joins-some : (C : ℕ) × LeastClosed D joins-shares C
+  joins-some = object-joins-by-the-rule D sets objects o H below k .some
+
+module _ (D : List Dependency) (sets : List ℕ) (objects : ℕ) (o : Bounded D sets objects) (start : ℕ) (there : start
+    ∈ objects) where
+  pub grown-every : (G : ℕ) → Holding D sets objects (single start) G → G ≡ grown D sets objects start
+  grown-every = grown-is-the-same-in-every-order D sets objects o start there .every
+
+  pub grown-some : Holding D sets objects (single start) (grown D sets objects start)
+  grown-some = grown-is-the-same-in-every-order D sets objects o start there .some
+
+module _ (D : List Dependency) (sets : List ℕ) (objects : ℕ) (o : Bounded D sets objects) where
+  pub computed-has-start : (M : ℕ) → List·Memᴰ M (computed D sets objects) → (k : ℕ) × LowestStart D sets objects M k
+  computed-has-start = computed-is-the-list D sets objects o .hasStart
+
+  pub computed-in-no-other : (M k : ℕ) → List·Memᴰ M (computed D sets objects) → k ∈ objects
+      → M ⊆ grown D sets objects k → M ≡ grown D sets objects k
+  computed-in-no-other = computed-is-the-list D sets objects o .inNoOther
+
+  pub computed-around : (k : ℕ) → k ∈ objects → LiesIn (grown D sets objects k) (computed D sets objects)
+  computed-around = computed-is-the-list D sets objects o .around
+
+  pub computed-none-twice : NoneTwice (computed D sets objects)
+  computed-none-twice = computed-is-the-list D sets objects o .noneTwice
+
+  pub computed-by-lowest-start : (i j a b : ℕ) → i < j → j < length (computed D sets objects)
+      → LowestStart D sets objects (at (computed D sets objects) i) a
+      → LowestStart D sets objects (at (computed D sets objects) j) b → a < b
+  computed-by-lowest-start = computed-is-the-list D sets objects o .byLowestStart
+
+  pub computed-at-most : length (computed D sets objects) ≤ 32
+  computed-at-most = computed-is-the-list D sets objects o .atMost
+
+module _ (D : List Dependency) (sets : List ℕ) (objects : ℕ) (o : Bounded D sets objects) (only : Bool) (declared
+    removed : List ℕ) where
+  abbrev pub maximal-counting : List ℕ
+  maximal-counting = maximal-objects-are-the-list D sets objects o only declared removed .counting
+
+  pub maximal-none-count : only ≡ true → maximal-counting ≡ []
+  maximal-none-count = maximal-objects-are-the-list D sets objects o only declared removed .noneCount
+
+  pub maximal-all-count : only ≡ false → maximal-counting ≡ computed D sets objects
+  maximal-all-count = maximal-objects-are-the-list D sets objects o only declared removed .allCount
+
+  abbrev pub maximal-staying : List ℕ
+  maximal-staying = maximal-objects-are-the-list D sets objects o only declared removed .staying
+
+  abbrev pub maximal-added : List ℕ
+  maximal-added = maximal-objects-are-the-list D sets objects o only declared removed .added
+
+  pub maximal-whole : maximalObjects D sets objects only declared removed ≡ maximal-staying ++ maximal-added
+  maximal-whole = maximal-objects-are-the-list D sets objects o only declared removed .whole
+
+  pub maximal-stays : (M : ℕ)
+      → List·Memᴰ M maximal-staying ↔ (List·Memᴰ M maximal-counting × (List·Memᴰ M removed → ⊥))
+  maximal-stays = maximal-objects-are-the-list D sets objects o only declared removed .stays
+
+  pub maximal-stay-in-order : LeavesOut maximal-staying maximal-counting
+  maximal-stay-in-order = maximal-objects-are-the-list D sets objects o only declared removed .stayInOrder
+
+  pub maximal-adds : (M : ℕ) → List·Memᴰ M maximal-added ↔ (List·Memᴰ M declared × (List·Memᴰ M maximal-staying → ⊥))
+  maximal-adds = maximal-objects-are-the-list D sets objects o only declared removed .adds
+
+  pub maximal-added-in-order : ByFirstPlace maximal-added declared
+  maximal-added-in-order = maximal-objects-are-the-list D sets objects o only declared removed .addedInOrder
+
+  pub maximal-some-objects : ((M : ℕ) → List·Memᴰ M declared → SomeObjects objects M) → (M : ℕ)
+      → List·Memᴰ M (maximalObjects D sets objects only declared removed) → SomeObjects objects M
+  maximal-some-objects = maximal-objects-are-the-list D sets objects o only declared removed .someObjects
+
+  pub maximal-none-twice : NoneTwice (maximalObjects D sets objects only declared removed)
+  maximal-none-twice = maximal-objects-are-the-list D sets objects o only declared removed .noneTwice
+
+  pub maximal-at-most : length (maximalObjects D sets objects only declared removed) ≤ 32 + length declared
+  maximal-at-most = maximal-objects-are-the-list D sets objects o only declared removed .atMost
+
+-- kept sets, for all families of sets of attributes 0 to 31
+module _ (X : ℕ) (F : Family) (o : OfAttributes F) where
+  pub kept-node : (ms : List Step) → Complete (NodePermits X) F ms → SameSets (leaves F ms) (kept X F)
+  kept-node = kept-by-every-list X F o .node
+
+  pub kept-cover : (ms : List Step) → Complete (CoverPermits X) F ms → SameSets (leaves F ms) (kept X F)
+  kept-cover = kept-by-every-list X F o .cover
+
+  pub kept-some-node : (ms : List Step) × Complete (NodePermits X) F ms
+  kept-some-node = kept-by-every-list X F o .someNode
+
+  pub kept-some-cover : (ms : List Step) × Complete (CoverPermits X) F ms
+  kept-some-cover = kept-by-every-list X F o .someCover
+
+-- answer rows: "each row once, none left out, none extra, in the stated order"
+module _ (b : List ℕ) (rs : List Record) (range : NamesInRange rs) where
+  pub answer-rows : (row : Row) → List·Memᴰ row (answerRows b (read b) rs) ↔ InAnswer b (read b) rs row
+  answer-rows = answer-listed b rs range .rows
+
+  pub answer-ascending : Ascending (itemKinds (read b) rs) (answerRows b (read b) rs)
+  answer-ascending = answer-listed b rs range .ascending
+
+  pub answer-of-kinds : AllOfKinds (itemKinds (read b) rs) (answerRows b (read b) rs)
+  answer-of-kinds = answer-listed b rs range .ofKinds
+
+  pub answer-only : (l : List Row) → Ascending (itemKinds (read b) rs) l → ((row : Row)
+      → List·Memᴰ row l ↔ InAnswer b (read b) rs row) → l ≡ answerRows b (read b) rs
+  answer-only = answer-listed b rs range .only
+
+  pub combinations-rows : (row : Row)
+      → InAnswer b (read b) rs row ↔ ((p : Combination b (read b) rs) × Passes b (read b) rs p × (row ≡ itemCells
+      (itemsOf rs) (combined b (read b) rs p)))
+  combinations-rows = combinations-give b rs range .rows
+
+module _ (b q : List ℕ) where
+  pub names-each : (v a : ℕ) → NamedIn (queryRead (read b) q .records) v a → (v < 4) × (a < 32)
+  names-each = names-in-range b q .each
 
 -- "A refusal is given exactly where its stated condition holds and that of none before it in the fixed order does": of
--- a record
-pub refusals-of-a-record : (s : Scheme) (r : Record) → FaultMeans s r
-refusals-of-a-record = fault-means
+-- a book
+module _ (s : Scheme) (r : Record) where
+  pub book-fault-exactly : (n : ℕ) → (faultOf s r ≡ n) ↔ First (conditions s r) n
+  book-fault-exactly = fault-means s r .exactly
 
--- of a book
-pub refusals-of-a-book : (b : List ℕ) → ReadExactly b × NumberMeans b
-refusals-of-a-book b = (read-exactly b, number-means b)
+module _ (b : List ℕ) where
+  pub book-read-over : 65536 < length b → read b ≡ record { number = 1; scheme = nothingDeclared; rows = [] }
+  book-read-over = read-exactly b .over
+
+  pub book-read-exactly : length b ≤ 65536 → (o : BookOutcome) → (read b ≡ o) ↔ StopsWith b o
+  book-read-exactly = read-exactly b .exactly
+
+  pub book-number-one-of : (read b .number ≤ 7) ⊎ ((read b .number ≡ 9) ⊎ ((read b .number ≡ 20) ⊎ (read b .number ≡
+      21)))
+  book-number-one-of = number-means b .oneOf
+
+  pub book-number-one : (read b .number ≡ 1) ↔ (65536 < length b)
+  book-number-one = number-means b .one
+
+  pub book-number-of-record : (n : ℕ) → RecordNumber n
+      → (read b .number ≡ n) ↔ ((length b ≤ 65536) × FaultyRecord b n)
+  book-number-of-record = number-means b .ofRecord
+
+  pub book-number-zero : (read b .number ≡ 0) ↔ ((length b ≤ 65536) × AcceptedWhole b 0)
+  book-number-zero = number-means b .zero
+
+  pub book-number-twenty-one : (read b .number ≡ 21) ↔ ((length b ≤ 65536) × AcceptedWhole b 21)
+  book-number-twenty-one = number-means b .twentyOne
+
+  pub book-number-nine : (read b .number ≡ 9) ↔ ((length b ≤ 65536) × AcceptedWhole b 9)
+  book-number-nine = number-means b .nine
+
+  pub book-nine-node : (read b .number ≡ 9) ↔ OnlyACycle NodePermits b
+  book-nine-node = nine-means b .node
+
+  pub book-nine-cover : (read b .number ≡ 9) ↔ OnlyACycle CoverPermits b
+  book-nine-cover = nine-means b .cover
+
+-- of a query, over every scheme and every list of maximal objects
+module _ (s : Scheme) (items comparisons : ℕ) (r : Record) where
+  pub query-fault-exactly : (n : ℕ)
+      → (queryFault s items comparisons r ≡ n) ↔ First (queryConditions s items comparisons r) n
+  query-fault-exactly = Queries.fault-means s items comparisons r .exactly
+
+module _ (s : Scheme) (Ms b : List ℕ) where
+  pub query-read-over : 65536 < length b → readQuery s Ms b ≡ refusedWith 1 []
+  query-read-over = Queries.read-exactly s Ms b .over
+
+  pub query-read-exactly : length b ≤ 65536 → (o : QueryOutcome) → (readQuery s Ms b ≡ o) ↔ QueryStopsWith s Ms b o
+  query-read-exactly = Queries.read-exactly s Ms b .exactly
+
+  pub query-number-one-of : (n : ℕ) → readQuery s Ms b .number ≡ n
+      → (n ≤ 5) ⊎ ((n ≡ 7) ⊎ ((n ≡ 10) ⊎ ((n ≡ 11) ⊎ (n ≡ 12))))
+  query-number-one-of = Queries.number-means s Ms b .oneOf
+
+  pub query-number-one : (readQuery s Ms b .number ≡ 1) ↔ (65536 < length b)
+  query-number-one = Queries.number-means s Ms b .one
+
+  pub query-number-three : (readQuery s Ms b .number ≡ 3) ↔ ((length b ≤ 65536) × (QueryFaultyRecord s b 3 ⊎ Unended
+      s b))
+  query-number-three = Queries.number-means s Ms b .three
+
+  pub query-number-of-record : (n : ℕ) → (n ≡ 2) ⊎ ((n ≡ 4) ⊎ ((n ≡ 5) ⊎ ((n ≡ 7) ⊎ (n ≡ 11))))
+      → (readQuery s Ms b .number ≡ n) ↔ ((length b ≤ 65536) × QueryFaultyRecord s b n)
+  query-number-of-record = Queries.number-means s Ms b .ofRecord
+
+  pub query-number-of-whole : (n : ℕ) → (n ≡ 0) ⊎ ((n ≡ 10) ⊎ (n ≡ 12))
+      → (readQuery s Ms b .number ≡ n) ↔ ((length b ≤ 65536) × Ended s Ms b n)
+  query-number-of-whole = Queries.number-means s Ms b .ofWhole
+
+-- of both together: "everywhere else the answer is full"
+module _ (b q : List ℕ) (serial room : ℕ) where
+  pub number-of-book : (n : ℕ) → 0 < n → read b .number ≡ n → number b q serial room ≡ n
+  number-of-book = answer-number-means b q serial room .ofBook
+
+  pub number-of-query : (n : ℕ) → 0 < n → read b .number ≡ 0 → queryRead (read b) q .number ≡ n
+      → number b q serial room ≡ n
+  number-of-query = answer-number-means b q serial room .ofQuery
+
+  pub number-fourteen : (number b q serial room ≡ 14) ↔ (Good b q × (serial ≡ lastSerial))
+  number-fourteen = answer-number-means b q serial room .fourteen
+
+  pub number-thirteen : (number b q serial room ≡ 13) ↔ (Good b q × MoreSerials serial × (room < cellsNeeded b q))
+  number-thirteen = answer-number-means b q serial room .thirteen
+
+  pub number-full : (number b q serial room ≡ 0) ↔ (Good b q × MoreSerials serial × (cellsNeeded b q ≤ room))
+  number-full = answer-number-means b q serial room .full
+
+  pub number-otherwise : (n : ℕ) → number b q serial room ≡ n → (n ≡ 0 → ⊥) → (n ≡ 13 → ⊥) → (n ≡ 14 → ⊥)
+      → (read b .number ≡ n) ⊎ ((read b .number ≡ 0) × (queryRead (read b) q .number ≡ n))
+  number-otherwise = answer-number-means b q serial room .otherwise
+
+  pub number-one-of : (number b q serial room ≤ 14) ⊎ ((number b q serial room ≡ 20) ⊎ (number b q serial room ≡ 21))
+  number-one-of = answer-number-means b q serial room .oneOf
+
+  pub number-not-eight : number b q serial room ≡ 8 → ⊥
+  number-not-eight = answer-number-means b q serial room .notEight
+
+-- ---- demand 3: "For every book that isn't refused, whatever rows its tables hold, each of its maximal objects and any
+-- wanted columns of it, one at least"
+
+-- demand 3 for M and X, and that answering computes what it speaks of
+module _ (b : List ℕ) (good : read b .number ≡ 0) (M : ℕ) (m : List·Memᴰ M (maximalOf (read b .scheme))) (X : ℕ)
+    (some : (a : ℕ) × (a ∈ X)) (inside : X ⊆ attributesOf (read b .scheme .sets) M) where
+  pub promise-e-demand3 : Demand3 (read b .scheme .kinds) (tablesOf b (read b) M) X
+  promise-e-demand3 = promise-e b good M m X some inside .demand3
+
+  pub promise-e-kept : keptSets (tablesOf b (read b) M) X ≡ keptFor (read b .scheme .sets) M X
+  promise-e-kept = promise-e b good M m X some inside .kept
+
+  pub promise-e-shown : (K : ℕ) (row : Row)
+      → List·Memᴰ row (shownRows (tablesOf b (read b) M) K) ↔ ((k : ℕ) × Shows (read b .scheme .sets) M K k ×
+      List·Memᴰ row (project K (tableOf b (read b) k) .rows))
+  promise-e-shown = promise-e b good M m X some inside .shown
+
+  pub promise-e-part : (row : Row) → InPart (read b .scheme .kinds) (tablesOf b (read b) M) X row ↔ ((at : ℕ
+      → ℕ) × FitsObject b (read b) M X at × (row ≡ map at (members 32 X)))
+  promise-e-part = promise-e b good M m X some inside .part
+
+-- demand 3 by its fields: for all tables over attributes 0 to 31, any rows, and any non-empty wanted columns of them
+module _ (kinds : List ℕ) (Ts : List Table) (X : ℕ) (o : OfAttributes (family Ts)) (inside : X ⊆ union (family Ts))
+    (some : (a : ℕ) × (a ∈ X)) where
+  pub demand-3-every-list : KeptByEveryList X (family Ts)
+  demand-3-every-list = demand3 kinds Ts X o inside some .everyList
+
+  pub demand-3-programs-union : UnionOfChoices kinds Ts X
+  demand-3-programs-union = demand3 kinds Ts X o inside some .programsUnion
+
+  pub demand-3-programs-part : PartHolds kinds Ts X
+  demand-3-programs-part = demand3 kinds Ts X o inside some .programsPart
+
+  pub demand-3-every-row : (cs : List ℕ) → StandFor Ts (keptSets Ts X) cs → (row : Row)
+      → InFullJoin kinds Ts X row → InKeptJoin kinds Ts X cs row
+  demand-3-every-row = demand3 kinds Ts X o inside some .everyRow
+
+  pub demand-3-no-other : AgreePairwise Ts → NoneMissing kinds Ts → (cs : List ℕ)
+      → StandFor Ts (keptSets Ts X) cs → (row : Row) → InKeptJoin kinds Ts X cs row → InFullJoin kinds Ts X row
+  demand-3-no-other = demand3 kinds Ts X o inside some .noOther
+
+  pub demand-3-equal : AgreePairwise Ts → NoneMissing kinds Ts → (cs : List ℕ) → StandFor Ts (keptSets Ts X) cs
+      → (row : Row) → InFullJoin kinds Ts X row ↔ InKeptJoin kinds Ts X cs row
+  demand-3-equal = demand3 kinds Ts X o inside some .equal
+
+-- ---- what a book and a query say
 
 -- what a book says is what its accepted records say: scheme, positions of rows, tables
-pub book-of-its-records : (b : List ℕ) (rs : List Record) (o : Outcome) (at : ℕ) → Accepted b rs (o .scheme) (o .rows) at
+pub book-of-its-records : (b : List ℕ) (rs : List Record) (o : BookOutcome) (at : ℕ)
+    → Accepted b rs (o .scheme) (o .rows) at
     → AcceptedSay b rs o at
 book-of-its-records = accepted-say
 
@@ -220,20 +438,6 @@ rows-of-its-bytes = row-in-bytes
 pub tables-of-a-book : (b : List ℕ) (M : ℕ) → TablesOfBook b M
 tables-of-a-book = tables-of-book
 
--- "The maximal objects .. are exactly those of the definitions"
-pub maximal-objects-of-a-book : (b : List ℕ) → MaximalObjectsRead b
-maximal-objects-of-a-book = maximal-objects-read
-
--- ---- demand 2 for queries: over every scheme and every list of maximal objects
-
-pub refusals-of-a-query-record : (s : Scheme) (items comparisons : ℕ) (r : Record) → QueryStatements.FaultMeans s items
-    comparisons r
-refusals-of-a-query-record = Queries.fault-means
-
-pub refusals-of-a-query : (s : Scheme) (Ms b : List ℕ)
-    → QueryStatements.ReadExactly s Ms b × QueryStatements.NumberMeans s Ms b
-refusals-of-a-query s Ms b = (Queries.read-exactly s Ms b, Queries.number-means s Ms b)
-
 -- what a query asks is what its records say
 pub query-of-its-records : (rs : List Record) → QueryStatements.RecordsAsk rs
 query-of-its-records = records-ask
@@ -241,32 +445,45 @@ query-of-its-records = records-ask
 pub maximal-objects-that-contain : (sets Ms : List ℕ) (X : ℕ) → QueryStatements.ContainingList sets Ms X
 maximal-objects-that-contain = containing-is-the-list
 
--- ---- demand 2 for answers: the rows of the list are exactly the answer rows, each once, ascending
-
-pub rows-of-an-answer : (b q : List ℕ) → AnswerListed b (queryRead (read b) q .records)
-rows-of-an-answer b q = answer-listed b (queryRead (read b) q .records) (names-in-range b q)
-
-pub rows-by-combinations : (b q : List ℕ) → CombinationsGive b (queryRead (read b) q .records)
-rows-by-combinations b q = combinations-give b (queryRead (read b) q .records) (names-in-range b q)
-
--- ---- demand 3
-
--- "Every list of permitted reduction steps .. ends with exactly the program's kept sets, each once, whether the steps
--- drop columns and contained sets or whole covered objects": for all families of sets of attributes 0 to 31
-pub every-list-of-steps : (X : ℕ) (F : Family) → OfAttributes F → KeptByEveryList X F
-every-list-of-steps = kept-by-every-list
-
--- demand 3 whole: for all tables over attributes 0 to 31, any rows, and any non-empty wanted columns of them
-pub demand-3-of-tables : (kinds : List ℕ) (Ts : List Table) (X : ℕ) → OfAttributes (family Ts) → X ⊆ union (family Ts)
-    → (a : ℕ) × (a ∈ X) → Demand3 kinds Ts X
-demand-3-of-tables = demand3
-
 -- "For every book that isn't refused, whatever rows its tables hold, each of its maximal objects and any wanted columns
 -- of it, one at least"
 pub demand-3-of-books : (b : List ℕ) → MaximalObjectsOfBook b
 demand-3-of-books = maximal-objects-of-book
 
--- ---- the comparison table
+-- ---- what the unit prints
 
-pub allowed-operators : TableAllows
-allowed-operators = table-allows
+module _ (b input : List ℕ) where
+  pub run-opening : openingOf (read b .number) (length input) .more ≡ false
+      → printout b input ≡ openingText (read b .number) (length input)
+  run-opening = run-prints b input .opening
+
+  pub run-nothing : openingOf (read b .number) (length input) .more ≡ true
+      → openingText (read b .number) (length input) ≡ []
+  run-nothing = run-prints b input .nothing
+
+  pub run-steps : openingOf (read b .number) (length input) .more ≡ true → Steps b input 0 (printout b input)
+  run-steps = run-prints b input .steps
+
+  pub run-only : openingOf (read b .number) (length input) .more ≡ true → (text : List ℕ) → Steps b input 0 text
+      → text ≡ printout b input
+  run-only = run-prints b input .only
+
+  pub run-refused-book : (n : ℕ) → 0 < n → read b .number ≡ n → printout b input ≡ bookRefused n
+  run-refused-book = run-prints b input .refusedBook
+
+  pub run-too-long : read b .number ≡ 0 → 65536 < length input → printout b input ≡ queryRefused 1
+  run-too-long = run-prints b input .tooLong
+
+  pub run-answered : read b .number ≡ 0 → length input ≤ 65536 → Steps b input 0 (printout b input)
+  run-answered = run-prints b input .answered
+
+  pub run-step-answered : (q : List ℕ) (serial : ℕ) → number b q serial 8192 ≡ 0
+      → textOf b q serial ≡ fullText b q serial
+  run-step-answered = run-prints b input .stepAnswered
+
+  pub run-step-refused : (q : List ℕ) (serial n : ℕ) → 0 < n → number b q serial 8192 ≡ n
+      → textOf b q serial ≡ queryRefused n
+  run-step-refused = run-prints b input .stepRefused
+
+  pub run-counted : (q : List ℕ) (serial : ℕ) → stepOf b q serial .printed ≡ length (textOf b q serial)
+  run-counted = run-prints b input .counted

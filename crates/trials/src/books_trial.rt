@@ -1,6 +1,8 @@
 // The books and queries of standard input, a line each: a name, a colon, then the bytes in decimal, the records parted
 // by strokes. A name with a question mark in front is a query's, one with an exclamation mark that of a query over a
-// book of no objects. And two books at the bound of 65,536 bytes.
+// book of no objects; over a book whose name has an `@` in front the functions for a host program are tried, too. And
+// two books at the bound of 65,536 bytes.
+use crate::host_trial;
 use crate::queries_trial;
 use crate::text;
 ghost use Prim.Native.Nat.{_≤_};
@@ -35,6 +37,9 @@ fn show(name: &[u8], bytes: &[u8]) {
         queries_trial::over_bare(name, bytes);
     } else {
         show_book(name, bytes);
+    }
+    if mark == b'@' {
+        host_trial::over_book(bytes);
     }
 }
 

@@ -1,5 +1,6 @@
 // The trials that a program checks: what it writes is held to the file stdout, which is written from the paper.
 mod books_trial;
+mod host_trial;
 mod queries_trial;
 mod sets_trial;
 mod text;
@@ -20,4 +21,7 @@ fn main() {
     books_trial::books(&input[..n]);
     books_trial::full();
     queries_trial::full();
+    host_trial::words();
+    host_trial::rows();
+    host_trial::refusals();
 }

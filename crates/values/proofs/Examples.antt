@@ -61,6 +61,7 @@ trials =
     ∷ record { gives = operators 1 0 2147483647 2147483648; says = false ∷ true ∷ true ∷ true ∷ false ∷ false ∷ false ∷ [] }
     ∷ record { gives = operators 1 0 2147483647 2147483647; says = true ∷ false ∷ false ∷ true ∷ false ∷ true ∷ false ∷ [] }
     -- "2 angle (0 to 35,999 hundredths of a degree)"; 4 is no kind
+    ∷ record { gives = ranges 0; says = true ∷ true ∷ true ∷ true ∷ false ∷ [] }
     ∷ record { gives = ranges 35999; says = true ∷ true ∷ true ∷ true ∷ false ∷ [] }
     ∷ record { gives = ranges 36000; says = true ∷ true ∷ false ∷ true ∷ false ∷ [] }
     ∷ record { gives = ranges 4294967294; says = true ∷ true ∷ false ∷ true ∷ false ∷ [] }

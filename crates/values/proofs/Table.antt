@@ -382,3 +382,14 @@ kept-not table i h e n = sym (one-fails 16 (entryKeeps table) i h (sym e ∙ n))
 pub kept-end : {table : List ℕ} {i : ℕ} → KeptBelow table i → 16 ≤ i → true ≡ keepsRules table
 unfolding keepsRules
 kept-end {table} K h = sym (below-every 16 (entryKeeps table) (λ k l. K .each k (omega (arith, l, h))))
+
+-- ---- by its byte
+
+pub allows-by-byte : (table : List ℕ) (operator left right : ℕ) → operator < 6 → left < 4 → right < 4
+    → (allows table operator left right ≡ true) ↔ (getD table (4 * left + right) 0 / 2 ^ operator % 2 ≡ 1)
+allows-by-byte table operator left right o l r =
+    let place : left * 4 + right ≡ 4 * left + right = omega arith in
+    let here : getD table (left * 4 + right) 0 ≡ getD table (4 * left + right) 0 = ap (λ (n : ℕ). getD table n 0) place in
+    let byte = ap (λ (n : ℕ). eqb (n / 2 ^ operator % 2) 1) here in
+    let same = allows-at table operator left right o l r in
+    (λ e. Tests.eqb-true _ 1 (sym byte ∙ same ∙ e), λ e. sym same ∙ byte ∙ Tests.eq-eqb _ 1 e)

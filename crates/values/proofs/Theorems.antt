@@ -6,6 +6,7 @@ use mathlib.Core.Bool.{or-false}
 use Prim.Native.Nat.{ℕ}
 use Rattle.values.specs.Table.{builtIn}
 use Rattle.values.specs.Statements.{MissingCells, OrderedByValue, OrderedAcross, MatchesMean, OperatorsMean}
+use Rattle.values.specs.Statements.{AllowedByItsByte, InRangeMeans}
 use Rattle.values.specs.Statements.{TableAllows, RulesTested, BuiltInKeeps, AllowedMeans, Turned}
 use Rattle.values.proofs.Values.{missing-lengths, missing-others, least-length, minus-one, missing-in-range}
 use Rattle.values.proofs.Values.{matches-yes, matches-equal, matches-stated}
@@ -14,6 +15,8 @@ use Rattle.values.proofs.Values.{less-key, key-injective, raised-order}
 use Rattle.values.proofs.Operators.{numbered, holds-none, holds-means, holds-means-number, holds-mirror}
 use Rattle.values.proofs.Operators.{holds-opposite}
 use Rattle.values.proofs.Table.{rule, rule-none, built-in-rule, within-two, within-six, allows-no-left}
+use Rattle.values.proofs.Table.{allows-by-byte}
+use Rattle.values.proofs.Values.{angles-in-range, others-in-range}
 use Rattle.values.proofs.Table.{allows-known, rules-tested, built-in-keeps, allows-mirror}
 
 pub missing-cells : MissingCells
@@ -58,6 +61,13 @@ table-allows = record {
   between = λ operator left right f. built-in-rule operator left right ∙ rule-none operator left right f;
   noKind = λ operator kind. allows-no-left builtIn operator kind kind;
 }
+
+pub allowed-by-its-byte : AllowedByItsByte
+unfolding AllowedByItsByte
+allowed-by-its-byte = allows-by-byte
+
+pub in-range-means : InRangeMeans
+in-range-means = record { angles = angles-in-range; others = others-in-range }
 
 pub rules-are-tested : RulesTested
 unfolding RulesTested

@@ -98,6 +98,25 @@ missing-in-range kind cell h e = by (eqb kind angle) refl
     by false d =
         inRange-other kind cell (Tests.eqb-false kind angle d) (missing-below kind cell e) ∙ Tests.lt-ltb kind 4 h
 
+pub others-in-range : (kind cell : ℕ) → kind < 4 → ¬ (kind ≡ 2) → cell < 2 ^ 32 → inRange kind cell ≡ true
+others-in-range kind cell h f l = inRange-other kind cell f l ∙ Tests.lt-ltb kind 4 h
+
+pub angles-in-range : (cell : ℕ) → (inRange 2 cell ≡ true) ↔ ((cell ≤ 35999) ⊎ (cell ≡ 4294967295))
+angles-in-range cell = (λ e. there (ltb cell 36000) refl (sym (inRange-angle 2 cell refl) ∙ e), back)
+  where
+    there : (t : Bool) → ltb cell 36000 ≡ t → (t || missing 2 cell) ≡ true → (cell ≤ 35999) ⊎ (cell ≡ 4294967295)
+    there true d e = inl (omega (arith, Tests.ltb-true cell 36000 d))
+    there false d e = inr (Tests.eqb-true cell 4294967295 (sym (missing-other 2 cell (λ p. omega (arith, p))) ∙ e))
+
+    back : (cell ≤ 35999) ⊎ (cell ≡ 4294967295) → inRange 2 cell ≡ true
+    back (inl h) =
+        inRange-angle 2 cell refl ∙ ap (λ (t : Bool). t || missing 2 cell) (Tests.lt-ltb cell 36000 (omega (arith, h)))
+    back (inr e) =
+        inRange-angle 2 cell refl
+        ∙ ap (λ (m : Bool). ltb cell 36000 || m)
+        (missing-other 2 cell (λ p. omega (arith, p)) ∙ Tests.eq-eqb cell 4294967295 e)
+        ∙ or-true (ltb cell 36000)
+
 -- ---- lengths
 
 signed-small : {a : ℕ} → a < 2 ^ 31 → signed a ≡ pos a

@@ -1,12 +1,14 @@
 -- What is proved of the definitions, for a reader; `proofs/Theorems.antt` proves each, in this order.
--- In order: missing cells, the order by value, match, operators, the comparison table and its rules, sides turned.
+-- In order: missing cells, the order by value, match, operators, the comparison table, cells in range, the rules of a
+-- table, sides turned.
 -- Assumes nothing.
 use mathlib.Core.Path.{_≡_}
 use mathlib.Core.Bool.{true, false, not}
 use mathlib.Core.Logic.{_⊎_, _↔_}
 use mathlib.Core.List.{List}
-use Prim.Native.Nat.{ℕ, _<_, _^_}
+use Prim.Native.Nat.{ℕ, _+_, _*_, _/_, _%_, _<_, _≤_, _^_}
 use lib.Dec.{ltb}
+use lib.ListN.{getD}
 use lib.IntN.{negsuc}
 use lib.Signed.{_<ℤ_}
 use Rattle.values.specs.Values.{missing, inRange, valueOf, lessCell, key, raised, matches}
@@ -68,6 +70,19 @@ pub record TableAllows : Type 0 where
   pub dates : (operator : ℕ) → (allows builtIn operator 3 3 ≡ true) ↔ ((o : Operator) × (operatorNumber o ≡ operator))
   pub between : (operator left right : ℕ) → ¬ (left ≡ right) → allows builtIn operator left right ≡ false
   pub noKind : (operator kind : ℕ) → 3 < kind → allows builtIn operator kind kind ≡ false
+
+-- Any table allows an operator exactly by its byte: "byte 4 times left kind plus right kind being that pair's operators
+-- (bit n for operator n)" (request 7).
+unfoldable pub AllowedByItsByte : Type 0
+AllowedByItsByte =
+    (table : List ℕ) (operator left right : ℕ)
+    → operator < 6 → left < 4 → right < 4
+    → (allows table operator left right ≡ true) ↔ (getD table (4 * left + right) 0 / 2 ^ operator % 2 ≡ 1)
+
+-- Which cells are in range: of angles "0 to 35,999", of the other kinds all of 32 bits; and a missing one (request 5).
+pub record InRangeMeans : Type 0 where
+  pub angles : (cell : ℕ) → (inRange 2 cell ≡ true) ↔ ((cell ≤ 35999) ⊎ (cell ≡ 4294967295))
+  pub others : (kind cell : ℕ) → kind < 4 → ¬ (kind ≡ 2) → cell < 2 ^ 32 → inRange kind cell ≡ true
 
 -- A table passes the test of its rules exactly if it keeps them.
 unfoldable pub RulesTested : Type 0

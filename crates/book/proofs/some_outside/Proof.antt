@@ -11,10 +11,10 @@ use Rattle.book.proofs.some_outside.Statement.{statement}
 use Rattle.book.proofs.some_outside.Tie as tie
 
 abbrev Inv-loop : tie.InvT-loop
-Inv-loop set kinds cells place₀ a₀ place a = InsideSoFar kinds set cells place a
+Inv-loop set kinds cells a₀ a = InsideSoFar kinds set cells a
 
 abbrev μ-loop : tie.MeasureT-loop
-μ-loop set kinds cells place₀ a₀ place a = 32 - a
+μ-loop set kinds cells a₀ a = 32 - a
 
 loop-holds : tie.Need-loop-holds Inv-loop μ-loop
 loop-holds c = inside-start _ _ _
@@ -25,41 +25,38 @@ cast-has c = search needs
 has-requires : tie.Need-has-requires Inv-loop μ-loop
 has-requires c κs = search needs
 
+cast-rank : tie.Need-cast-rank Inv-loop μ-loop
+cast-rank c = search needs
+
+rank-requires : tie.Need-rank-requires Inv-loop μ-loop
+rank-requires c κs = search needs
+
+cast-place : tie.Need-cast-place Inv-loop μ-loop
+cast-place c = search needs
+
 array-read-in-range : tie.Need-array-read-in-range Inv-loop μ-loop
 array-read-in-range c = search needs
 
 mul-in-range : tie.Need-mul-in-range Inv-loop μ-loop
 mul-in-range c =
-    let is = tested (c .before .has .ensures) (c .if1 .taken) in
-    omega (
-      arith,
-      place-in-row (c .before .before .before .loop .inv) (c .before .before .loop-test .taken) (c .before
-          .before .before .before .pre) is,
-    )
+    let is = tested (c .before .before .has .ensures) (c .before .if1 .taken) in
+    let few = c .before .before .before .before .before .pre in
+    omega (arith, place-in-row _ _ few (c .before .before .before .loop-test .taken) is (c .rank .ensures))
 
 array-read-in-range-2 : tie.Need-array-read-in-range-2 Inv-loop μ-loop
 array-read-in-range-2 c =
-    let is = tested (c .before .has .ensures) (c .if1 .taken) in
-    place-in-row (c .before .before .before .loop .inv) (c .before .before .loop-test .taken) (c .before .before
-    .before .before .pre) is
+    let is = tested (c .before .before .has .ensures) (c .before .if1 .taken) in
+    let few = c .before .before .before .before .before .pre in
+    place-in-row _ _ few (c .before .before .before .loop-test .taken) is (c .rank .ensures)
 
 in-range-requires : tie.Need-in-range-requires Inv-loop μ-loop
 in-range-requires c κs = search needs
 
 returns : tie.Need-returns Inv-loop μ-loop
 returns c =
-    let is = tested (c .before .before .before .has .ensures) (c .before .before .if1 .taken) in
-    outside-here (c .before .before .before .before .before .loop .inv) (c .before .before .before .before .loop-test
-    .taken) is (c .before .in-range .ensures) (c .if2 .taken)
-
-add-place : tie.Need-add-place Inv-loop μ-loop
-add-place c =
-    let is = tested (c .before .before .before .has .ensures) (c .before .before .if1 .taken) in
-    omega (
-      arith,
-      place-in-row (c .before .before .before .before .before .loop .inv) (c .before .before .before
-          .before .loop-test .taken) (c .before .before .before .before .before .before .pre) is,
-    )
+    let is = tested (c .before .before .before .before .has .ensures) (c .before .before .before .if1 .taken) in
+    outside-here (c .before .before .before .before .before .before .loop .inv) (c .before .before .before .before
+    .before .loop-test .taken) is (c .before .before .rank .ensures) (c .before .in-range .ensures) (c .if2 .taken)
 
 add-a : tie.Need-add-a Inv-loop μ-loop
 add-a c = search needs
@@ -72,8 +69,8 @@ loop-again c =
     let v = c .before .before .before .loop .inv in
     let l = c .before .before .loop-test .taken in
     let is = c .before .has .ensures in
-    ⊎-elim (λ w. inside-with v l _ (tested is (w .0 .taken)) (w .1 .ensures) (w .2 .left) (w .3))
-    (λ w. inside-past v l _ (tested is (w .0 .left)) (w .1))
+    ⊎-elim (λ w. inside-with v l (tested is (w .0 .taken)) (w .1 .ensures) (w .2 .ensures) (w .3 .left))
+    (λ w. inside-past v l (tested is (w .left)))
     (c .if1 .came)
 
 returns-2 : tie.Need-returns-2 Inv-loop μ-loop
@@ -88,12 +85,14 @@ some-outside-spec =
     loop-holds
     cast-has
     has-requires
+    cast-rank
+    rank-requires
+    cast-place
     array-read-in-range
     mul-in-range
     array-read-in-range-2
     in-range-requires
     returns
-    add-place
     add-a
     loop-less
     loop-again

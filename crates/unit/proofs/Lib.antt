@@ -1,2 +1,0 @@
--- The laws of `unit`. Assumes nothing.
-pub mod Going
