@@ -48,8 +48,10 @@ static void fail(const char *what, unsigned long call) {
     exit(1);
 }
 
-/* Numbers of refusals: 8 and 15 to 19 are none. */
-static int is_refusal(uint64_t n) { return (n >= 1 && n <= 14 && n != 8) || n == 20 || n == VINGARBU_REFUSALS; }
+/* Numbers of refusals: 8 and 15 to 17 are none, 18 and 19 are of sheets. */
+static int is_refusal(uint64_t n) { return (n >= 1 && n <= 14 && n != 8) || (n >= 18 && n <= VINGARBU_REFUSALS); }
+
+static int is_of_sheets(uint64_t n) { return n == 18 || n == 19; }
 
 /* Random bytes, none zero; or a part of good bytes, cut off and changed in a few places; or good bytes with one of some
  * records behind or in front of them, cut off in them or whole; or nothing. */
@@ -127,7 +129,7 @@ int main(int argc, char **argv) {
             if (memcmp(space, before, sizeof space) != 0) fail("a cell has changed", call);
             continue;
         }
-        if (results[0] != 0 && !is_refusal(results[0])) fail("another number", call);
+        if (results[0] != 0 && (!is_refusal(results[0]) || is_of_sheets(results[0]))) fail("another number", call);
         numbers[results[0]]++;
         if (results[2] != (results[0] == 0 ? (uint64_t)serial + 1 : serial)) fail("another serial", call);
         if (results[0] != 0 && (results[1] != 0 || results[3] != 0)) fail("a refusal with rows or bytes read", call);
@@ -161,7 +163,7 @@ int main(int argc, char **argv) {
     printf("%d calls, seed %llu: statuses %lu %lu %lu, numbers", CALLS, (unsigned long long)seed, statuses[0], statuses[1],
            statuses[2]);
     for (unsigned i = 0; i <= VINGARBU_REFUSALS; i++)
-        if (i == 0 || is_refusal(i)) printf(" %u:%lu", i, numbers[i]);
+        if (i == 0 || (is_refusal(i) && !is_of_sheets(i))) printf(" %u:%lu", i, numbers[i]);
     puts("");
     return 0;
 }

@@ -1,4 +1,5 @@
-/* Vingarbu for a host program in C: a query answered over the bytes of a book, and the answer printed.
+/* Vingarbu for a host program in C: a query answered over the bytes of a book, and the answer printed, as the unit does
+ * or on sheets.
  *
  * What each function gives back and leaves in every lent cell is proved of its source, crates/host/src/lib.rt, for all
  * inputs; the definitions are in crates/host/specs. Nothing checks this header against that source.
@@ -25,10 +26,12 @@ extern "C" {
 /* Bounds of the paper. A book or a query with more is refused; a space may have any length. */
 #define VINGARBU_BYTES 65536u          /* of a book, and of a query */
 #define VINGARBU_ITEMS 8u              /* of a query */
-#define VINGARBU_REFUSALS 21u          /* the highest number of a refusal; 8 and 15 to 19 are none */
+#define VINGARBU_REFUSALS 21u          /* the highest number of a refusal; 8 and 15 to 17 are none */
 #define VINGARBU_UNIT_CELLS 8192u      /* the space of the unit */
 #define VINGARBU_UNIT_TEXT 98327u      /* bytes that every printed answer of at most 8,192 cells fits */
 #define VINGARBU_WORDS 32u             /* bytes that the words of every refusal fit */
+#define VINGARBU_SHEET 3880u           /* bytes of a sheet: 40 lines of 96 characters and a line feed */
+#define VINGARBU_SHEET_ROWS 38u        /* rows that a sheet has lines for */
 
 /* What a function returns. With any status but VINGARBU_DONE nothing was changed. */
 #define VINGARBU_DONE 0u
@@ -77,8 +80,24 @@ uint32_t vingarbu_print(uint32_t serial, uint64_t rows, const uint8_t *kinds, si
 /* A few English words for the number of a refusal, without a line feed or a zero byte: docs/REFUSALS.md has the table.
  *   results  at least 1 cell, else VINGARBU_SHORT; the first is set to how many bytes the words are, the others stay.
  *   out      long enough for the words, else VINGARBU_SHORT; bytes behind them stay.
- * VINGARBU_NOT_FIT where the number is no refusal's: 0, 8, 15 to 19, or over 21. */
+ * VINGARBU_NOT_FIT where the number is no refusal's: 0, 8, 15 to 17, or over 21. */
 uint32_t vingarbu_refusal_text(uint32_t number, uint8_t *out, size_t out_len, uint64_t *results, size_t results_len);
+
+/* Prints one sheet of an answer: the serial and the row count, 38 lines of rows, the sheet number. Each field stands at the
+ * right of its 12 columns; a missing cell is `-`; lines behind the last row are blank.
+ *   serial, rows, kinds, cells   as for vingarbu_print.
+ *   number   which sheet, from 1.
+ *   results  at least 1 cell, else VINGARBU_SHORT; the first is set to 0 where the sheet was printed, to 18 where `out` has
+ *            under 3,880 bytes or the answer is not fit to print (see vingarbu_print, VINGARBU_NOT_FIT), else to 19 where
+ *            the number is 0 or past the last sheet; the others stay.
+ *   out      the sheet in its first 3,880 bytes, the others stay; with 18 and 19 all of it stays.
+ * It never returns VINGARBU_NOT_FIT. */
+uint32_t vingarbu_sheet(uint32_t serial, uint64_t rows, const uint8_t *kinds, size_t kinds_len, const uint32_t *cells,
+                        size_t cells_len, uint64_t number, uint8_t *out, size_t out_len, uint64_t *results,
+                        size_t results_len);
+
+/* How many sheets an answer of so many rows has: one for each 38 rows, and one for no rows. */
+uint64_t vingarbu_sheets(uint64_t rows);
 
 #ifdef __cplusplus
 }

@@ -8,6 +8,7 @@ use lib.ListN.{length, getD, replicate}
 use Rattle.connection.specs.Answering.{refused}
 use Rattle.printout.specs.declared.Printed.the-variants.{Bytes, NoRoom, NotFit}
 use Rattle.host.specs.Results.{answerCells, answerStatus, giveStatus, giveResults, givenStatus, givenResults}
+use Rattle.host.specs.Results.{sheetStatus, sheetResults}
 use Rattle.host.specs.Words.{words, wordsOf}
 
 -- the first letter of a number's words and how many bytes they are
@@ -32,6 +33,9 @@ trials =
     ∷ record { gives = givenResults NoRoom (77 ∷ 88 ∷ []); says = 77 ∷ 88 ∷ [] }
     ∷ record { gives = givenResults NotFit (77 ∷ 88 ∷ []); says = 77 ∷ 88 ∷ [] }
     ∷ record { gives = givenResults (Bytes 3) []; says = [] }
+    -- a sheet: its number, in a place of its own
+    ∷ record { gives = sheetResults 19 (77 ∷ 88 ∷ []); says = 19 ∷ 88 ∷ [] }
+    ∷ record { gives = sheetStatus [] ∷ sheetStatus (7 ∷ []) ∷ []; says = 1 ∷ 0 ∷ [] }
     -- statuses: of an answer with three, four and five results; of bytes with no result, and with one
     ∷ record {
       gives =
@@ -59,10 +63,13 @@ trials =
     ∷ record { gives = letter 12; says = 110 ∷ 13 ∷ [] }  -- no connection
     ∷ record { gives = letter 13; says = 115 ∷ 15 ∷ [] }  -- space too small
     ∷ record { gives = letter 14; says = 108 ∷ 18 ∷ [] }  -- last serial number
+    ∷ record { gives = letter 18; says = 115 ∷ 23 ∷ [] }  -- sheet cannot be printed
+    ∷ record { gives = letter 19; says = 110 ∷ 20 ∷ [] }  -- no such sheet number
     ∷ record { gives = letter 20; says = 119 ∷ 22 ∷ [] }  -- wrong comparison table
     ∷ record { gives = letter 21; says = 107 ∷ 23 ∷ [] }  -- kinds 6 and 14 together
     ∷ []
 
 pub trials-hold : map (λ t. t .gives) trials ≡ map (λ t. t .says) trials
 unfolding trials letter words answerCells refused answerStatus giveStatus giveResults givenStatus givenResults
+    sheetStatus sheetResults
 trials-hold = refl

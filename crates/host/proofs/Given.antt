@@ -1,5 +1,5 @@
 -- What the functions give, at each way out.
--- In order: results written, an answer, bytes that are given.
+-- In order: results written, an answer, bytes that are given, a sheet.
 -- Assumes nothing.
 use mathlib.Core.Path.{_≡_, refl, sym, ap, _∙_}
 use mathlib.Core.List.{List, [], _∷_, _++_}
@@ -12,7 +12,8 @@ use Rattle.connection.specs.Answering.{answerOf, spaceAfter}
 use Rattle.printout.specs.declared.Printed.{Printed}
 use Rattle.printout.specs.declared.Printed.the-variants.{Bytes, NoRoom, NotFit}
 use Rattle.host.specs.Results.{short, done, notFit, answerCells, answerStatus, answerResults, answerSpace}
-use Rattle.host.specs.Results.{giveStatus, giveResults, givenStatus, givenResults, givenBytes}
+use Rattle.host.specs.Results.{giveStatus, giveResults, givenStatus, givenResults, givenBytes, sheetStatus}
+use Rattle.host.specs.Results.{sheetResults}
 
 -- ---- results written
 
@@ -108,5 +109,32 @@ module _ (p : Printed) (after before results : List ℕ) where
         (
           v ∙ sym (rw (givenBytes, e)),
           w .1 ∙ ap (λ (x : Printed). giveResults x results) u ∙ sym (rw (givenResults, e)),
+        ),
+      )
+
+-- ---- a sheet
+
+-- what a call for a sheet of number n gives back
+abbrev Sheets : ℕ → List ℕ → List ℕ → List ℕ → ℕ → List ℕ → List ℕ → Type 0
+Sheets n after before results status outNow resultsNow =
+    (status ≡ sheetStatus results) × ((outNow ≡ givenBytes after before results)
+    × (resultsNow ≡ sheetResults n results))
+
+module _ (n : ℕ) (after before results : List ℕ) where
+  pub sheet-short : length results < 1 → Sheets n after before results short before results
+  unfolding sheetStatus givenBytes sheetResults
+  sheet-short h =
+      let e = lt-ltb (length results) 1 h in
+      (sym (rw (sheetStatus, e)), (sym (rw (givenBytes, e)), sym (rw (sheetResults, e))))
+
+  pub sheet-done : 1 ≤ length results → {r m : ℕ} {outNow : List ℕ} → r ≡ n → outNow ≡ after → m ≡ r
+      → Sheets n after before results done outNow (set results 0 m)
+  unfolding sheetStatus givenBytes sheetResults
+  sheet-done h {m = m} u v w =
+      let e = le-ltb (length results) 1 h in (
+        sym (rw (sheetStatus, e)),
+        (
+          v ∙ sym (rw (givenBytes, e)),
+          one-written results m h ∙ ap (λ (i : ℕ). i ∷ drop 1 results) (w ∙ u) ∙ sym (rw (sheetResults, e)),
         ),
       )

@@ -1,5 +1,5 @@
 -- What is given back, by its places.
--- In order: a front written anew, an answer, bytes that are given, a status other than 0.
+-- In order: a front written anew, an answer, bytes that are given, a status other than 0, a sheet.
 -- Assumes nothing.
 use mathlib.Core.Path.{_≡_, refl, sym, ap, subst, _∙_}
 use mathlib.Core.Bool.{true, false}
@@ -21,7 +21,8 @@ use Rattle.printout.specs.declared.Printed.{Printed}
 use Rattle.printout.specs.declared.Printed.the-variants.{Bytes, NoRoom, NotFit}
 use Rattle.printout.proofs.Theorems.{text-printed}
 use Rattle.host.specs.Results.{answerCells, answerStatus, answerResults, answerSpace}
-use Rattle.host.specs.Results.{giveStatus, giveResults, givenStatus, givenResults, givenBytes}
+use Rattle.host.specs.Results.{giveStatus, giveResults, givenStatus, givenResults, givenBytes, sheetStatus}
+use Rattle.host.specs.Results.{sheetResults}
 use Rattle.host.specs.Words.{wordsOf, hasWords, wordsPrinted, wordsAfter}
 use Rattle.host.specs.Statements.{FourResults, Unchanged}
 
@@ -211,6 +212,32 @@ module _ (p : Printed) (after before results : List ℕ) where
       (λ h.
       let none : (n : ℕ) → p ≡ Bytes n → ⊥ = λ n e. d (given-done .1 (h, (n, e))) in
       (given-bytes h ∙ stays none, told-results h ∙ result-stays p results none)) (lt-or-le (length results) 1)
+
+-- ---- a sheet: its number is a result as the length of bytes is
+
+module _ (n : ℕ) (after before results : List ℕ) where
+  pub sheet-done : 1 ≤ length results
+      → (sheetStatus results ≡ 0)
+      × ((getD (sheetResults n results) 0 0 ≡ n) × (givenBytes after before results ≡ after))
+  unfolding sheetStatus sheetResults givenStatus givenResults giveStatus giveResults
+  sheet-done h = (
+    told-status (Bytes n) after before results h,
+    (given-count (Bytes n) after before results h n refl, given-bytes (Bytes n) after before results h),
+  )
+
+  pub sheet-short : length results < 1
+      → (sheetStatus results ≡ 1) × ((givenBytes after before results ≡ before) × (sheetResults n results ≡ results))
+  unfolding sheetStatus sheetResults givenStatus givenResults giveStatus giveResults
+  sheet-short l = given-short (Bytes n) after before results l
+
+module _ (n : ℕ) (results : List ℕ) where
+  pub sheet-others : (i : ℕ) → 1 ≤ i → getD (sheetResults n results) i 0 ≡ getD results i 0
+  unfolding sheetResults givenResults giveResults
+  sheet-others i k = given-others (Bytes n) [] [] results i k
+
+  pub sheet-as-many : length (sheetResults n results) ≡ length results
+  unfolding sheetResults givenResults giveResults
+  sheet-as-many = given-as-many (Bytes n) [] [] results
 
 -- a text stays unwritten where there is no room for it; an answer, where it is not fit to print; words, where there are
 -- none

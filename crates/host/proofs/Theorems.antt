@@ -6,7 +6,7 @@ use Prim.Native.Nat.{ℕ}
 use Rattle.printout.specs.declared.Printed.{Printed}
 use Rattle.run.specs.Items.{itemKindsOf}
 use Rattle.host.specs.Words.{wordsPrinted, wordsAfter}
-use Rattle.host.specs.Statements.{AnswerGiven, BytesGiven, NothingChanged, WordsSaid}
+use Rattle.host.specs.Statements.{AnswerGiven, BytesGiven, SheetReported, NothingChanged, WordsSaid}
 use Rattle.host.proofs.Places as Places
 use Rattle.host.proofs.Words as Words
 
@@ -34,6 +34,16 @@ bytes-given p after before results = record {
   short = Places.given-short p after before results;
   others = Places.given-others p after before results;
   asMany = Places.given-as-many p after before results;
+}
+
+-- ---- a sheet
+
+pub sheet-reported : (n : ℕ) (after before results : List ℕ) → SheetReported n after before results
+sheet-reported n after before results = record {
+  done = Places.sheet-done n after before results;
+  short = Places.sheet-short n after before results;
+  others = Places.sheet-others n results;
+  asMany = Places.sheet-as-many n results;
 }
 
 -- ---- a status other than 0

@@ -24,7 +24,7 @@ use Rattle.host.specs.Statements.{Listed}
 
 -- the test of `Listed`
 abbrev listed : ℕ → Bool
-listed n = (leb 1 n && leb n 7) || ((leb 9 n && leb n 14) || (eqb n 20 || eqb n 21))
+listed n = (leb 1 n && leb n 7) || ((leb 9 n && leb n 14) || (leb 18 n && leb n 21))
 
 yes-between : (a b n : ℕ) → (leb a n && leb n b) ≡ true → (a ≤ n) × (n ≤ b)
 yes-between a b n y = let (u, v) = yes-and (leb a n) (leb n b) y in (leb-true a n u, leb-true n b v)
@@ -32,23 +32,19 @@ yes-between a b n y = let (u, v) = yes-and (leb a n) (leb n b) y in (leb-true a 
 yes-listed : (n : ℕ) → listed n ≡ true → Listed n
 yes-listed n y =
     ⊎-elim (λ u. inl (yes-between 1 7 n u)) (λ u. inr (⊎-elim (λ v. inl (yes-between 9 14 n v))
-    (λ v. inr (⊎-elim (λ w. inl (eqb-true n 20 w)) (λ w. inr (eqb-true n 21 w)) (yes-or (eqb n 20) (eqb n 21) v)))
-    (yes-or (leb 9 n && leb n 14) (eqb n 20 || eqb n 21) u)))
-    (yes-or (leb 1 n && leb n 7) ((leb 9 n && leb n 14) || (eqb n 20 || eqb n 21)) y)
+    (λ v. inr (yes-between 18 21 n v)) (yes-or (leb 9 n && leb n 14) (leb 18 n && leb n 21) u)))
+    (yes-or (leb 1 n && leb n 7) ((leb 9 n && leb n 14) || (leb 18 n && leb n 21)) y)
 
 listed-yes : (n : ℕ) → Listed n → listed n ≡ true
 listed-yes n (inl (l, h)) = or-left _ (and-yes (le-leb 1 n l) (le-leb n 7 h))
 listed-yes n (inr (inl (l, h))) = or-right (leb 1 n && leb n 7) (or-left _ (and-yes (le-leb 9 n l) (le-leb n 14 h)))
-listed-yes n (inr (inr (inl e))) =
-    or-right (leb 1 n && leb n 7) (or-right (leb 9 n && leb n 14) (or-left _ (eq-eqb n 20 e)))
-listed-yes n (inr (inr (inr e))) =
-    or-right (leb 1 n && leb n 7) (or-right (leb 9 n && leb n 14) (or-right (eqb n 20) (eq-eqb n 21 e)))
+listed-yes n (inr (inr (l, h))) =
+    or-right (leb 1 n && leb n 7) (or-right (leb 9 n && leb n 14) (and-yes (le-leb 18 n l) (le-leb n 21 h)))
 
 listed-below : (n : ℕ) → Listed n → n < 22
 listed-below n (inl h) = omega (arith, h)
 listed-below n (inr (inl h)) = omega (arith, h)
-listed-below n (inr (inr (inl h))) = omega (arith, h)
-listed-below n (inr (inr (inr h))) = omega (arith, h)
+listed-below n (inr (inr h)) = omega (arith, h)
 
 past-all : (n : ℕ) → 22 ≤ n → wordsOf n ≡ []
 unfolding words
@@ -120,15 +116,15 @@ beyond l h = omega (arith, l, h)
 
 -- no other number has words
 no-words : (n : ℕ) → (n ≡ 1 → ⊥) → (n ≡ 2 → ⊥) → (n ≡ 3 → ⊥) → (n ≡ 4 → ⊥) → (n ≡ 5 → ⊥)
-    → (n ≡ 6 → ⊥) → (n ≡ 7 → ⊥) → (n ≡ 9 → ⊥) → (n ≡ 10 → ⊥) → (n ≡ 11 → ⊥)
-    → (n ≡ 12 → ⊥) → (n ≡ 13 → ⊥) → (n ≡ 14 → ⊥) → (n ≡ 20 → ⊥) → (n ≡ 21 → ⊥) → hasWords n ≡ false
-no-words n d1 d2 d3 d4 d5 d6 d7 d9 d10 d11 d12 d13 d14 d20 d21 = not-yes (λ y. none (words-listed n y))
+    → (n ≡ 6 → ⊥) → (n ≡ 7 → ⊥) → (n ≡ 9 → ⊥) → (n ≡ 10 → ⊥) → (n ≡ 11 → ⊥) → (n ≡ 12 → ⊥) → (n ≡ 13 → ⊥)
+    → (n ≡ 14 → ⊥) → (n ≡ 18 → ⊥) → (n ≡ 19 → ⊥) → (n ≡ 20 → ⊥) → (n ≡ 21 → ⊥) → hasWords n ≡ false
+no-words n d1 d2 d3 d4 d5 d6 d7 d9 d10 d11 d12 d13 d14 d18 d19 d20 d21 =
+    not-yes (λ y. none (words-listed n y))
   where
     none : Listed n → ⊥
     none (inl (l, h)) = beyond (up (up (up (up (up (up (up l d1) d2) d3) d4) d5) d6) d7) h
     none (inr (inl (l, h))) = beyond (up (up (up (up (up (up l d9) d10) d11) d12) d13) d14) h
-    none (inr (inr (inl e))) = d20 e
-    none (inr (inr (inr e))) = d21 e
+    none (inr (inr (l, h))) = beyond (up (up (up (up l d18) d19) d20) d21) h
 
 module _ (n : ℕ) (out : List ℕ) where
   -- the number of a refusal, whose words are these
@@ -144,10 +140,10 @@ module _ (n : ℕ) (out : List ℕ) where
 
   -- any other
   pub words-none : (n ≡ 1 → ⊥) → (n ≡ 2 → ⊥) → (n ≡ 3 → ⊥) → (n ≡ 4 → ⊥) → (n ≡ 5 → ⊥)
-      → (n ≡ 6 → ⊥) → (n ≡ 7 → ⊥) → (n ≡ 9 → ⊥) → (n ≡ 10 → ⊥) → (n ≡ 11 → ⊥)
-      → (n ≡ 12 → ⊥) → (n ≡ 13 → ⊥) → (n ≡ 14 → ⊥) → (n ≡ 20 → ⊥) → (n ≡ 21 → ⊥)
+      → (n ≡ 6 → ⊥) → (n ≡ 7 → ⊥) → (n ≡ 9 → ⊥) → (n ≡ 10 → ⊥) → (n ≡ 11 → ⊥) → (n ≡ 12 → ⊥) → (n ≡ 13 → ⊥)
+      → (n ≡ 14 → ⊥) → (n ≡ 18 → ⊥) → (n ≡ 19 → ⊥) → (n ≡ 20 → ⊥) → (n ≡ 21 → ⊥)
       → (NotFit ≡ wordsPrinted n out) × (out ≡ wordsAfter n out)
   unfolding wordsPrinted wordsAfter
-  words-none d1 d2 d3 d4 d5 d6 d7 d9 d10 d11 d12 d13 d14 d20 d21 =
-      let e = no-words n d1 d2 d3 d4 d5 d6 d7 d9 d10 d11 d12 d13 d14 d20 d21 in
+  words-none d1 d2 d3 d4 d5 d6 d7 d9 d10 d11 d12 d13 d14 d18 d19 d20 d21 =
+      let e = no-words n d1 d2 d3 d4 d5 d6 d7 d9 d10 d11 d12 d13 d14 d18 d19 d20 d21 in
       (sym (rw (wordsPrinted, e)), sym (rw (wordsAfter, e)))

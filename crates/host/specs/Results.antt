@@ -1,5 +1,5 @@
 -- What a host program is given back, for all inputs: the status of a call, its results and every lent cell.
--- In order: statuses, an answer, bytes that are given.
+-- In order: statuses, an answer, bytes that are given, a sheet.
 -- Not here: the words of a refusal (`Words`).
 -- Assumes nothing.
 use mathlib.Core.Bool.{Bool, true, false}
@@ -72,3 +72,11 @@ givenResults p results = elim (ltb (length results) 1) [ true ↦ results | fals
 -- the bytes `after` printing, or those `before` it
 unfoldable pub givenBytes : List ℕ → List ℕ → List ℕ → List ℕ
 givenBytes after before results = elim (ltb (length results) 1) [ true ↦ before | false ↦ after ]
+
+-- ---- a sheet: one result, its number 0, 18 or 19
+
+unfoldable pub sheetStatus : List ℕ → ℕ
+sheetStatus results = elim (ltb (length results) 1) [ true ↦ short | false ↦ done ]
+
+unfoldable pub sheetResults : ℕ → List ℕ → List ℕ
+sheetResults number results = elim (ltb (length results) 1) [ true ↦ results | false ↦ number ∷ drop 1 results ]

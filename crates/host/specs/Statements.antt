@@ -1,5 +1,5 @@
 -- What is proved of what a host program is given back, for all inputs. The proofs are in `proofs/Theorems.antt`.
--- In order: an answer, bytes that are given, a status other than 0, the words of refusals.
+-- In order: an answer, bytes that are given, a sheet, a status other than 0, the words of refusals.
 -- Not here: which value kinds are given (`KindsGiven` of `run`), the text of an answer (`printout`).
 -- Assumes nothing.
 use mathlib.Core.Path.{_≡_}
@@ -14,6 +14,7 @@ use Rattle.printout.specs.declared.Printed.{Printed}
 use Rattle.printout.specs.declared.Printed.the-variants.{Bytes, NoRoom, NotFit}
 use Rattle.run.specs.Items.{itemKindsOf}
 use Rattle.host.specs.Results.{answerStatus, answerResults, answerSpace, givenStatus, givenResults, givenBytes}
+use Rattle.host.specs.Results.{sheetStatus, sheetResults}
 use Rattle.host.specs.Words.{wordsOf, wordsPrinted, wordsAfter}
 
 -- ---- an answer
@@ -63,6 +64,20 @@ pub record BytesGiven (p : Printed) (after before results : List ℕ) : Type 0 w
   pub others : (i : ℕ) → 1 ≤ i → getD (givenResults p results) i 0 ≡ getD results i 0
   pub asMany : length (givenResults p results) ≡ length results
 
+-- ---- a sheet: n is its number, 0, 18 or 19 (`SheetGiven` of `sheets`), `after` the lent bytes then
+
+pub record SheetReported (n : ℕ) (after before results : List ℕ) : Type 0 where
+  -- status 0 and the number, also where that is 18 or 19
+  pub done : 1 ≤ length results
+      → (sheetStatus results ≡ 0)
+      × ((getD (sheetResults n results) 0 0 ≡ n) × (givenBytes after before results ≡ after))
+  -- no place for the result: status 1, and nothing is changed
+  pub short : length results < 1
+      → (sheetStatus results ≡ 1) × ((givenBytes after before results ≡ before) × (sheetResults n results ≡ results))
+  -- the results behind the first stay
+  pub others : (i : ℕ) → 1 ≤ i → getD (sheetResults n results) i 0 ≡ getD results i 0
+  pub asMany : length (sheetResults n results) ≡ length results
+
 -- ---- a status other than 0: nothing is changed
 
 abbrev pub Unchanged : Printed → List ℕ → List ℕ → List ℕ → Type 0
@@ -79,7 +94,7 @@ pub record NothingChanged (out results : List ℕ) : Type 0 where
 
 -- the numbers of the fixed list that are given
 abbrev pub Listed : ℕ → Type 0
-Listed n = ((1 ≤ n) × (n ≤ 7)) ⊎ (((9 ≤ n) × (n ≤ 14)) ⊎ ((n ≡ 20) ⊎ (n ≡ 21)))
+Listed n = ((1 ≤ n) × (n ≤ 7)) ⊎ (((9 ≤ n) × (n ≤ 14)) ⊎ ((18 ≤ n) × (n ≤ 21)))
 
 pub record WordsSaid : Type 0 where
   -- a number has words exactly if it is one of them; no two have the same, and 32 bytes are enough for each

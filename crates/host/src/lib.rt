@@ -4,10 +4,11 @@ ghost use mathlib.Core.Path.{_≡_};
 ghost use Prim.Native.Nat.{_≤_};
 ghost use lib.ListN.{length};
 ghost use Rattle.host.specs.Results.{answerStatus, answerResults, answerSpace, giveStatus, giveResults};
-ghost use Rattle.host.specs.Results.{givenStatus, givenResults, givenBytes};
+ghost use Rattle.host.specs.Results.{givenStatus, givenResults, givenBytes, sheetStatus, sheetResults};
 ghost use Rattle.host.specs.Words.{wordsPrinted, wordsAfter};
 ghost use Rattle.printout.specs.Printing.{printed, after, answerPrinted, afterAnswer};
 ghost use Rattle.run.specs.Items.{itemKindsOf};
+ghost use Rattle.sheets.specs.Sheets.{sheetCount, sheetNumber, afterSheet};
 use printout::Printed;
 
 // Statuses: done; lent cells or bytes are too few; nothing that could be printed.
@@ -149,6 +150,8 @@ fn print_words(number: u32, out: &mut [u8]) -> Printed
         12 => printout::print_text(b"no connection", out),
         13 => printout::print_text(b"space too small", out),
         14 => printout::print_text(b"last serial number", out),
+        18 => printout::print_text(b"sheet cannot be printed", out),
+        19 => printout::print_text(b"no such sheet number", out),
         20 => printout::print_text(b"wrong comparison table", out),
         21 => printout::print_text(b"kinds 6 and 14 together", out),
         _ => Printed::NotFit,
@@ -169,4 +172,38 @@ pub extern "C" fn vingarbu_refusal_text(number: u32, out: &mut [u8], results: &m
     }
     let p = print_words(number, out);
     report(p, results)
+}
+
+// Prints one sheet of an answer, by its number from 1, in the first 3,880 bytes. One result: 0, or 18 where the sheet cannot
+// be printed, or 19 where the answer has no such sheet.
+#[no_mangle]
+pub extern "C" fn vingarbu_sheet(
+    serial: u32,
+    rows: u64,
+    kinds: &[u8],
+    cells: &[u32],
+    number: u64,
+    out: &mut [u8],
+    results: &mut [u64],
+) -> u32
+    ensures { λ r. ⌜ r ≡ sheetStatus (now (results .entry)) ⌝ }
+    ensures { λ _. ⌜ now (out .exit) ≡ givenBytes (afterSheet serial rows (now (kinds .entry)) (now (cells .entry)) number
+        (now (out .entry))) (now (out .entry)) (now (results .entry)) ⌝ }
+    ensures { λ _. ⌜ now (results .exit) ≡ sheetResults (sheetNumber rows (now (kinds .entry)) (now (cells .entry)) number
+        (now (out .entry))) (now (results .entry)) ⌝ }
+{
+    if results.len() < 1 {
+        return SHORT;
+    }
+    let refusal = sheets::sheet(serial, rows as usize, kinds, cells, number, out);
+    results[0] = of_byte(refusal);
+    DONE
+}
+
+// How many sheets an answer of so many rows has.
+#[no_mangle]
+pub extern "C" fn vingarbu_sheets(rows: u64) -> u64
+    ensures { λ r. ⌜ r ≡ sheetCount rows ⌝ }
+{
+    sheets::sheets(rows as usize)
 }

@@ -161,7 +161,7 @@ module _ (w n : ℕ) (cells : List ℕ) where
 
 -- ---- rows
 
-first-of-kinds : (kinds : List ℕ) (n : ℕ) (cells : List ℕ) → suc n * length kinds ≤ length cells
+pub first-of-kinds : (kinds : List ℕ) (n : ℕ) (cells : List ℕ) → suc n * length kinds ≤ length cells
     → SmallCells (suc n * length kinds) cells → OfKinds kinds (take (length kinds) cells)
 first-of-kinds kinds n cells f s = record {
   wide = length-take-le (length kinds) cells (omega (arith, f, suc-mul n (length kinds)));

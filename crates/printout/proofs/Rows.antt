@@ -137,7 +137,7 @@ module _ (w from : ℕ) (cells : List ℕ) where
   rowPart = take (from + w - from) (drop from cells)
 
   -- the next row in front of the rest
-  rows-left : (left : ℕ) → 0 < left
+  pub rows-left : (left : ℕ) → 0 < left
       → rowsIn w left (drop from cells) ≡ rowPart ∷ rowsIn w (left - 1) (drop (from + w) cells)
   unfolding rowsIn
   rows-left zero h = absurd (omega (arith, h))

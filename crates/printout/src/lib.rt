@@ -25,7 +25,7 @@ pub enum Printed {
 }
 
 // A cell as a number of 64 bits.
-fn wide(x: u32) -> usize
+pub fn wide(x: u32) -> usize
     ensures { λ r. ⌜ (r ≡ x) × (r < 2 ^ 32) ⌝ }
 {
     x as usize
@@ -40,7 +40,7 @@ fn digit(x: usize) -> u8
 }
 
 // How many digits a number has.
-fn decimal_length(x: usize) -> usize
+pub fn decimal_length(x: usize) -> usize
     ensures { λ r. ⌜ r ≡ length (decimal x) ⌝ }
     ensures inside { λ r. ⌜ r ≤ 20 ⌝ }
 {
@@ -54,7 +54,7 @@ fn decimal_length(x: usize) -> usize
 }
 
 // Writes one byte. The place behind it.
-fn put_byte(out: &mut [u8], at: usize, byte: u8) -> usize
+pub fn put_byte(out: &mut [u8], at: usize, byte: u8) -> usize
     requires { ⌜ at < length (now out) ⌝ }
     ensures { λ r. ⌜ r ≡ at + 1 ⌝ }
     ensures { λ _. ⌜ now (out .exit) ≡ written at (byte ∷ []) (now (out .entry)) ⌝ }
@@ -79,7 +79,7 @@ fn put_text(out: &mut [u8], at: usize, text: &[u8]) -> usize
 }
 
 // Writes a number in decimal. The place behind it.
-fn put_decimal(out: &mut [u8], at: usize, x: usize) -> usize
+pub fn put_decimal(out: &mut [u8], at: usize, x: usize) -> usize
     requires { ⌜ at + length (decimal x) ≤ length (now out) ⌝ }
     ensures { λ r. ⌜ r ≡ at + length (decimal x) ⌝ }
     ensures { λ _. ⌜ now (out .exit) ≡ written at (decimal x) (now (out .entry)) ⌝ }
@@ -120,7 +120,7 @@ fn value_length(kind: u8, cell: u32) -> usize
 }
 
 // How many bytes the text of a cell has.
-fn cell_length(kind: u8, cell: u32) -> usize
+pub fn cell_length(kind: u8, cell: u32) -> usize
     ensures { λ r. ⌜ r ≡ length (cellText kind cell) ⌝ }
     ensures inside { λ r. ⌜ r ≤ 11 ⌝ }
 {
@@ -144,7 +144,7 @@ fn put_value(out: &mut [u8], at: usize, kind: u8, cell: u32) -> usize
 }
 
 // Writes a cell by its kind, a missing one as a minus alone. The place behind it.
-fn put_cell(out: &mut [u8], at: usize, kind: u8, cell: u32) -> usize
+pub fn put_cell(out: &mut [u8], at: usize, kind: u8, cell: u32) -> usize
     requires { ⌜ at + length (cellText kind cell) ≤ length (now out) ⌝ }
     ensures { λ r. ⌜ r ≡ at + length (cellText kind cell) ⌝ }
     ensures { λ _. ⌜ now (out .exit) ≡ written at (cellText kind cell) (now (out .entry)) ⌝ }
@@ -306,7 +306,7 @@ fn rows_fit(kinds: &[u8], cells: &[u32], rows: usize) -> bool
 }
 
 // Whether an answer is fit to print.
-fn is_fit(rows: usize, kinds: &[u8], cells: &[u32]) -> bool
+pub fn is_fit(rows: usize, kinds: &[u8], cells: &[u32]) -> bool
     ensures { λ r. ⌜ r ≡ fits rows (now (kinds .entry)) (now (cells .entry)) ⌝ }
 {
     let w = kinds.len();

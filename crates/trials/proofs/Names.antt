@@ -68,10 +68,19 @@ use Rattle.choices.proofs.nothing_planned.Met.{met as choices-nothing-planned}
 use Rattle.choices.proofs.choose.Met.{met as choices-choose}
 use Rattle.answer.proofs.answer_book.Met.{met as answer-answer-book}
 use Rattle.answer.proofs.answer_bytes.Met.{met as answer-answer-bytes}
+use Rattle.printout.proofs.wide.Met.{met as printout-wide}
+use Rattle.printout.proofs.decimal_length.Met.{met as printout-decimal-length}
+use Rattle.printout.proofs.put_byte.Met.{met as printout-put-byte}
+use Rattle.printout.proofs.put_decimal.Met.{met as printout-put-decimal}
+use Rattle.printout.proofs.cell_length.Met.{met as printout-cell-length}
+use Rattle.printout.proofs.put_cell.Met.{met as printout-put-cell}
+use Rattle.printout.proofs.is_fit.Met.{met as printout-is-fit}
 use Rattle.printout.proofs.print_answer.Met.{met as printout-print-answer}
 use Rattle.printout.proofs.print_text.Met.{met as printout-print-text}
 use Rattle.printout.proofs.print_book_refusal.Met.{met as printout-print-book-refusal}
 use Rattle.printout.proofs.print_query_refusal.Met.{met as printout-print-query-refusal}
+use Rattle.sheets.proofs.sheets.Met.{met as sheets-sheets}
+use Rattle.sheets.proofs.sheet.Met.{met as sheets-sheet}
 use Rattle.run.proofs.opening.Met.{met as run-opening}
 use Rattle.run.proofs.step.Met.{met as run-step}
 use Rattle.run.proofs.item_kinds.Met.{met as run-item-kinds}
@@ -79,6 +88,8 @@ use Rattle.host.proofs.vingarbu_answer.Met.{met as host-vingarbu-answer}
 use Rattle.host.proofs.vingarbu_kinds.Met.{met as host-vingarbu-kinds}
 use Rattle.host.proofs.vingarbu_print.Met.{met as host-vingarbu-print}
 use Rattle.host.proofs.vingarbu_refusal_text.Met.{met as host-vingarbu-refusal-text}
+use Rattle.host.proofs.vingarbu_sheet.Met.{met as host-vingarbu-sheet}
+use Rattle.host.proofs.vingarbu_sheets.Met.{met as host-vingarbu-sheets}
 -- ---- theorems
 use Rattle.sets.proofs.Theorems.{members-of-sets, equal-sets, containment, rank-and-count, lowest-member}
 use Rattle.sets.proofs.Theorems.{members-listed, plain-containment}
@@ -125,7 +136,11 @@ use Rattle.choices.proofs.Theorems.{same-rows-either-way}
 use Rattle.printout.proofs.Theorems.{in-decimal, cells-read, texts-read, fit-tested, text-printed, answer-printed}
 use Rattle.printout.proofs.Theorems.{fit-bounds, room-enough}
 use Rattle.printout.proofs.Examples.{trials-hold as printout-trials-hold}
+use Rattle.sheets.proofs.Theorems.{sheet-shaped, lines-say, rows-shown, answer-shown, sheets-counted, own-rows}
+use Rattle.sheets.proofs.Theorems.{fields-read, sheets-read, sheet-given}
+use Rattle.sheets.proofs.Examples.{trials-hold as sheets-trials-hold}
 use Rattle.run.proofs.Theorems.{answered-prints, step-inside, opening-inside, kinds-given, run-prints}
 use Rattle.host.proofs.Theorems.{answer-given, bytes-given, nothing-changed, words-said}
+use Rattle.host.proofs.Theorems.{sheet-reported}
 use Rattle.host.proofs.Examples.{trials-hold as host-trials-hold}
 use Rattle.trials.proofs.Starred.{starred-hold, runs-hold, dated-runs-hold, gap-runs-hold}

@@ -35,6 +35,17 @@ use Rattle.query.specs.Asking.{ofTwo, withCell}
 use Rattle.connection.specs.Answering.{number}
 use Rattle.connection.specs.Answers.{Cells, isTrue, kindAt}
 use Rattle.connection.proofs.Theorems.{comparison-means}
+use Rattle.printout.specs.Lines.{FitToPrint}
+use Rattle.sheets.specs.Sheets.{sheetCount, sheetLines, sheetText, headLine, rowLine, lineOf, footLine, sheetRows}
+use Rattle.sheets.specs.Sheets.{shownTo, answerRows, fieldOf, sheetNumber, afterSheet}
+use lib.ListN.{length, take, drop}
+use mathlib.Core.List.{List·Memᴰ, [], _++_}
+use Rattle.sheets.specs.Statements.{LineOf96, AnswerShown, SheetsRead}
+use Prim.Native.Nat.{_-_}
+use Rattle.sorted.specs.Rows.{rowAt}
+use Rattle.printout.specs.Decimal.{decimal, cellText}
+use Rattle.sheets.proofs.Theorems.{sheet-shaped, lines-say, rows-shown, answer-shown, sheets-counted, own-rows}
+use Rattle.sheets.proofs.Theorems.{fields-read, sheets-read, sheet-given}
 
 -- ---- request 2
 
@@ -64,6 +75,112 @@ module _ (kinds : List ℕ) (Ts : List Table) (X : ℕ) (o : OfAttributes (famil
   pub request-2-part-equal : AgreePairwise Ts → NoneMissing kinds Ts → (row : Row)
       → InFullJoin kinds Ts X row ↔ InPart kinds Ts X row
   request-2-part-equal = part-holds kinds Ts X o inside some .equal
+
+-- ---- request 3
+
+module _ (serial rows : ℕ) (kinds cells : List ℕ) (number : ℕ) (small : serial < 2 ^ 32) (fit : FitToPrint rows
+    kinds cells) (some : 1 ≤ number) (last : number ≤ sheetCount rows) where
+  pub request-3-shape-lines : length (sheetLines serial rows kinds cells number) ≡ 40
+  request-3-shape-lines = sheet-shaped serial rows kinds cells number small fit some last .lines
+
+  pub request-3-shape-each : (l : List ℕ) → List·Memᴰ l (sheetLines serial rows kinds cells number) → LineOf96 l
+  request-3-shape-each = sheet-shaped serial rows kinds cells number small fit some last .each
+
+  pub request-3-shape-bytes : length (sheetText serial rows kinds cells number) ≡ 3880
+  request-3-shape-bytes = sheet-shaped serial rows kinds cells number small fit some last .bytes
+
+module _ (serial rows : ℕ) (kinds cells : List ℕ) (number : ℕ) where
+  pub request-3-line-head : getD (sheetLines serial rows kinds cells number) 0 [] ≡ headLine serial rows
+  request-3-line-head = lines-say serial rows kinds cells number .head
+
+  pub request-3-line-row : (j : ℕ) → j < 38 → 38 * (number - 1) + j < rows
+      → getD (sheetLines serial rows kinds cells number) (1 + j) [] ≡ rowLine kinds (rowAt (length kinds) (38 *
+      (number - 1) + j) cells)
+  request-3-line-row = lines-say serial rows kinds cells number .row
+
+  pub request-3-line-blank : (j : ℕ) → j < 38 → rows ≤ 38 * (number - 1) + j
+      → getD (sheetLines serial rows kinds cells number) (1 + j) [] ≡ lineOf []
+  request-3-line-blank = lines-say serial rows kinds cells number .blank
+
+  pub request-3-line-foot : getD (sheetLines serial rows kinds cells number) 39 [] ≡ footLine number
+  request-3-line-foot = lines-say serial rows kinds cells number .foot
+
+module _ (rows : List Row) where
+  pub request-3-rows-few : (number : ℕ) → length (sheetRows number rows) ≤ 38
+  request-3-rows-few = rows-shown rows .few
+
+  pub request-3-rows-front : (n : ℕ) → shownTo n rows ≡ take (38 * n) rows
+  request-3-rows-front = rows-shown rows .front
+
+  pub request-3-rows-all : shownTo (sheetCount (length rows)) rows ≡ rows
+  request-3-rows-all = rows-shown rows .all
+
+  pub request-3-rows-place : (i : ℕ) → i < length rows
+      → (i / 38 + 1 ≤ sheetCount (length rows)) × (getD (sheetRows (i / 38 + 1) rows) (i % 38) [] ≡ getD rows i [])
+  request-3-rows-place = rows-shown rows .place
+
+pub request-3-answer : (rows : ℕ) (kinds cells : List ℕ)
+    → shownTo (sheetCount rows) (answerRows rows kinds cells) ≡ answerRows rows kinds cells
+unfolding AnswerShown
+request-3-answer = answer-shown
+
+module _ (rows : ℕ) where
+  pub request-3-count-some : 1 ≤ sheetCount rows
+  request-3-count-some = sheets-counted rows .some
+
+  pub request-3-count-enough : rows ≤ 38 * sheetCount rows
+  request-3-count-enough = sheets-counted rows .enough
+
+  pub request-3-count-least : (n : ℕ) → 1 ≤ n → rows ≤ 38 * n → sheetCount rows ≤ n
+  request-3-count-least = sheets-counted rows .least
+
+module _ (serial : ℕ) (kinds : List ℕ) (number : ℕ) where
+  pub request-3-own-sheet : (rows : ℕ) (cells cells′ : List ℕ) → ((i : ℕ) → 38 * (number - 1) ≤ i
+      → i < 38 * (number - 1) + 38 → i < rows → rowAt (length kinds) i cells ≡ rowAt (length kinds) i cells′)
+      → sheetText serial rows kinds cells number ≡ sheetText serial rows kinds cells′ number
+  request-3-own-sheet = own-rows serial kinds number .sheet
+
+  pub request-3-own-but-head : (serial′ rows rows′ : ℕ) (cells cells′ : List ℕ)
+      → sheetRows number (answerRows rows kinds cells) ≡ sheetRows number (answerRows rows′ kinds cells′)
+      → drop 1 (sheetLines serial rows kinds cells number) ≡ drop 1 (sheetLines serial′ rows′ kinds cells′ number)
+  request-3-own-but-head = own-rows serial kinds number .butHead
+
+pub request-3-field-number : (m n : ℕ) → fieldOf (decimal m) ≡ fieldOf (decimal n) → m ≡ n
+request-3-field-number = fields-read .number
+
+pub request-3-field-cell : (kind : ℕ) {a b : ℕ} → a < 2 ^ 32 → b < 2 ^ 32
+    → fieldOf (cellText kind a) ≡ fieldOf (cellText kind b) → a ≡ b
+request-3-field-cell = fields-read .cell
+
+pub request-3-read : (kinds cells cells′ : List ℕ) (serial rows number serial′ rows′ number′ : ℕ)
+    → serial < 2 ^ 32 → serial′ < 2 ^ 32 → FitToPrint rows kinds cells → FitToPrint rows′ kinds cells′
+    → 1 ≤ number → number ≤ sheetCount rows → 1 ≤ number′ → number′ ≤ sheetCount rows′
+    → sheetText serial rows kinds cells number ≡ sheetText serial′ rows′ kinds cells′ number′
+    → (serial ≡ serial′) × ((rows ≡ rows′) × ((number ≡ number′) × (sheetRows number (answerRows rows kinds cells) ≡
+    sheetRows number′ (answerRows rows′ kinds cells′))))
+unfolding SheetsRead
+request-3-read = sheets-read
+
+module _ (serial rows : ℕ) (kinds cells : List ℕ) (number : ℕ) (bytes : List ℕ) where
+  pub request-3-given-eighteen : (sheetNumber rows kinds cells number bytes ≡ 18) ↔ ((length bytes < 3880) ⊎ (¬
+      FitToPrint rows kinds cells))
+  request-3-given-eighteen = sheet-given serial rows kinds cells number bytes .eighteen
+
+  pub request-3-given-nineteen : (sheetNumber rows kinds cells number bytes ≡ 19) ↔ ((3880 ≤ length bytes) ×
+      (FitToPrint rows kinds cells × ((number ≡ 0) ⊎ (sheetCount rows < number))))
+  request-3-given-nineteen = sheet-given serial rows kinds cells number bytes .nineteen
+
+  pub request-3-given-given : (sheetNumber rows kinds cells number bytes ≡ 0) ↔ ((3880 ≤ length bytes) × (FitToPrint
+      rows kinds cells × ((1 ≤ number) × (number ≤ sheetCount rows))))
+  request-3-given-given = sheet-given serial rows kinds cells number bytes .given
+
+  pub request-3-given-written : sheetNumber rows kinds cells number bytes ≡ 0
+      → afterSheet serial rows kinds cells number bytes ≡ sheetText serial rows kinds cells number ++ drop 3880 bytes
+  request-3-given-written = sheet-given serial rows kinds cells number bytes .written
+
+  pub request-3-given-unchanged : ¬ (sheetNumber rows kinds cells number bytes ≡ 0)
+      → afterSheet serial rows kinds cells number bytes ≡ bytes
+  request-3-given-unchanged = sheet-given serial rows kinds cells number bytes .unchanged
 
 -- ---- request 4
 

@@ -98,6 +98,18 @@ slice-aggregate-print-text-15 c = search needs
 print-text-requires-15 : tie.Need-print-text-requires-15
 print-text-requires-15 c κs = search needs
 
+slice-aggregate-print-text-16 : tie.Need-slice-aggregate-print-text-16
+slice-aggregate-print-text-16 c = search needs
+
+print-text-requires-16 : tie.Need-print-text-requires-16
+print-text-requires-16 c κs = search needs
+
+slice-aggregate-print-text-17 : tie.Need-slice-aggregate-print-text-17
+slice-aggregate-print-text-17 c = search needs
+
+print-text-requires-17 : tie.Need-print-text-requires-17
+print-text-requires-17 c κs = search needs
+
 same-length : tie.Need-same-length
 same-length c = search needs
 
@@ -221,7 +233,7 @@ same-length-14 c = search needs
 returns-14 : tie.Need-returns-14
 unfolding words hasWords
 returns-14 c =
-    words-are _ _ {k = 20} (omega (arith, c .before .before .before .before .before .match .keys14)) refl
+    words-are _ _ {k = 18} (omega (arith, c .before .before .before .before .before .match .keys14)) refl
     refl (c .before .before .print-text14 .ensures)
 
 same-length-15 : tie.Need-same-length-15
@@ -230,13 +242,32 @@ same-length-15 c = search needs
 returns-15 : tie.Need-returns-15
 unfolding words hasWords
 returns-15 c =
-    words-are _ _ {k = 21} (omega (arith, c .before .before .before .before .before .match .keys15)) refl
+    words-are _ _ {k = 19} (omega (arith, c .before .before .before .before .before .match .keys15)) refl
     refl (c .before .before .print-text15 .ensures)
 
+same-length-16 : tie.Need-same-length-16
+same-length-16 c = search needs
+
 returns-16 : tie.Need-returns-16
+unfolding words hasWords
 returns-16 c =
+    words-are _ _ {k = 20} (omega (arith, c .before .before .before .before .before .match .keys16)) refl
+    refl (c .before .before .print-text16 .ensures)
+
+same-length-17 : tie.Need-same-length-17
+same-length-17 c = search needs
+
+returns-17 : tie.Need-returns-17
+unfolding words hasWords
+returns-17 c =
+    words-are _ _ {k = 21} (omega (arith, c .before .before .before .before .before .match .keys17)) refl
+    refl (c .before .before .print-text17 .ensures)
+
+returns-18 : tie.Need-returns-18
+returns-18 c =
     let r = c .match .rest in
     words-none _ _
+    (r .0 .0 .0 .0 .0 .0 .0 .0 .0 .0 .0 .0 .0 .0 .0 .0 .1) (r .0 .0 .0 .0 .0 .0 .0 .0 .0 .0 .0 .0 .0 .0 .0 .1)
     (r .0 .0 .0 .0 .0 .0 .0 .0 .0 .0 .0 .0 .0 .0 .1) (r .0 .0 .0 .0 .0 .0 .0 .0 .0 .0 .0 .0 .0 .1)
     (r .0 .0 .0 .0 .0 .0 .0 .0 .0 .0 .0 .0 .1) (r .0 .0 .0 .0 .0 .0 .0 .0 .0 .0 .0 .1)
     (r .0 .0 .0 .0 .0 .0 .0 .0 .0 .0 .1) (r .0 .0 .0 .0 .0 .0 .0 .0 .0 .1) (r .0 .0 .0 .0 .0 .0 .0 .0 .1)
@@ -277,6 +308,10 @@ print-words-spec =
     print-text-requires-14
     slice-aggregate-print-text-15
     print-text-requires-15
+    slice-aggregate-print-text-16
+    print-text-requires-16
+    slice-aggregate-print-text-17
+    print-text-requires-17
     same-length
     returns
     same-length-2
@@ -307,4 +342,8 @@ print-words-spec =
     returns-14
     same-length-15
     returns-15
-    returns-16)
+    same-length-16
+    returns-16
+    same-length-17
+    returns-17
+    returns-18)
