@@ -23,9 +23,9 @@ use Rattle.values.proofs.Table.{rules-tested}
 use Rattle.records.specs.Records.{masksOf}
 use Rattle.records.specs.Checks.{First}
 use Rattle.records.specs.declared.Record.{Record}
-use Rattle.records.specs.declared.Record.the-variants.{Attribute, Object, Dependency, Row, Declared, Removed}
-use Rattle.records.specs.declared.Record.the-variants.{Comparisons, OnlyDeclared, Item}
-use Rattle.records.specs.declared.Record.the-variants.{CompareTwo, CompareConstant, End}
+use Rattle.records.specs.declared.Record.the-variants.{OfBook, OfQuery}
+use Rattle.records.specs.declared.BookRecord.the-variants.{Attribute, Object, Dependency, Row, Declared, Removed}
+use Rattle.records.specs.declared.BookRecord.the-variants.{ComparisonTable, OnlyDeclared}
 use Rattle.records.proofs.Checks.{EachNumber, first-number, Same, Agree, ended, next, first-agrees, first-unique}
 use Rattle.records.proofs.Checks.{same-always, same-or}
 use Rattle.records.proofs.Checks.{same-or-three, same-lt, same-le, same-empty, same-has, same-absent, same-not-within}
@@ -143,24 +143,21 @@ same-rules table = record {
 
 agrees : (s : Scheme) (r : Record) → Agree (checks s r) (conditions s r)
 unfolding checks conditions
-agrees s (Attribute id kind) =
+agrees s (OfBook (Attribute id kind)) =
     next (same-or (same-lt 31 id) (same-lt 3 kind)) (next (same-has (s .attributes) id) ended)
-agrees s (Object number set) =
+agrees s (OfBook (Object number set)) =
     next (same-or-three (same-lt 31 number) (same-empty set) (same-lt 6 (count 32 set)))
     (next (same-has (s .objects) number) (next (same-not-within set (s .attributes)) ended))
-agrees s (Dependency left right) =
+agrees s (OfBook (Dependency left right)) =
     next (same-le 64 (s .dependencies)) (next (same-or (same-empty left) (same-empty right))
     (next (same-or (same-not-within left (s .attributes)) (same-not-within right (s .attributes))) ended))
-agrees s (Row object c0 c1 c2 c3 c4 c5) = row-agrees s object (c0 ∷ c1 ∷ c2 ∷ c3 ∷ c4 ∷ c5 ∷ [])
-agrees s (Declared set) = maximal-agrees s (s .declarations) set
-agrees s (Removed set) = maximal-agrees s (s .removals) set
-agrees s (Comparisons names lengths angles dates) =
-    next (same-le 1 (s .tables)) (next (same-rules (masksOf names lengths angles dates)) ended)
-agrees s OnlyDeclared = ended
-agrees s (Item variable attribute) = next same-always ended
-agrees s (CompareTwo variable attribute operator variable2 attribute2) = next same-always ended
-agrees s (CompareConstant variable attribute operator cell) = next same-always ended
-agrees s End = next same-always ended
+agrees s (OfBook (Row object c0 c1 c2 c3 c4 c5)) = row-agrees s object (c0 ∷ c1 ∷ c2 ∷ c3 ∷ c4 ∷ c5 ∷ [])
+agrees s (OfBook (Declared set)) = maximal-agrees s (s .maximal .declarations) set
+agrees s (OfBook (Removed set)) = maximal-agrees s (s .maximal .removals) set
+agrees s (OfBook (ComparisonTable names lengths angles dates)) =
+    next (same-le 1 (s .table .given)) (next (same-rules (masksOf names lengths angles dates)) ended)
+agrees s (OfBook OnlyDeclared) = ended
+agrees s (OfQuery r) = next same-always ended
 
 -- ---- the first
 
@@ -190,18 +187,15 @@ seven = inl (omega arith)
 
 between : (s : Scheme) (r : Record) → EachNumber RecordNumber (conditions s r)
 unfolding EachNumber conditions rowConditions maximalConditions
-between s (Attribute id kind) = (five, (six, tt))
-between s (Object number set) = (five, (six, (seven, tt)))
-between s (Dependency left right) = (four, (five, (seven, tt)))
-between s (Row object c0 c1 c2 c3 c4 c5) = (five, (seven, (five, tt)))
-between s (Declared set) = (four, (five, (seven, tt)))
-between s (Removed set) = (four, (five, (seven, tt)))
-between s (Comparisons names lengths angles dates) = (four, (inr refl, tt))
-between s OnlyDeclared = tt
-between s (Item variable attribute) = (two, tt)
-between s (CompareTwo variable attribute operator variable2 attribute2) = (two, tt)
-between s (CompareConstant variable attribute operator cell) = (two, tt)
-between s End = (two, tt)
+between s (OfBook (Attribute id kind)) = (five, (six, tt))
+between s (OfBook (Object number set)) = (five, (six, (seven, tt)))
+between s (OfBook (Dependency left right)) = (four, (five, (seven, tt)))
+between s (OfBook (Row object c0 c1 c2 c3 c4 c5)) = (five, (seven, (five, tt)))
+between s (OfBook (Declared set)) = (four, (five, (seven, tt)))
+between s (OfBook (Removed set)) = (four, (five, (seven, tt)))
+between s (OfBook (ComparisonTable names lengths angles dates)) = (four, (inr refl, tt))
+between s (OfBook OnlyDeclared) = tt
+between s (OfQuery r) = (two, tt)
 
 pub fault-between : (s : Scheme) (r : Record) → (faultOf s r ≡ 0 → ⊥) → RecordNumber (faultOf s r)
 fault-between s r d = first-number RecordNumber (conditions s r) (faultOf s r) (between s r) (fault-first s r) d

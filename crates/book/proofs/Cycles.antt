@@ -88,7 +88,8 @@ module _ {permits : ℕ → Form} (form : Reduces permits) where
         at = w .at;
         accepted = w .accepted;
         ended = w .ended;
-        notBoth = λ k. yes-no (both-is-a-fault (w .scheme .only) (w .scheme .removals) .exactly .1 k) p;
+        notBoth =
+            λ k. yes-no (both-is-a-fault (w .scheme .maximal .only) (w .scheme .maximal .removals) .exactly .1 k) p;
         cycle = cyclic-left (accepted-well-formed (w .accepted)) q;
       }
 
@@ -105,7 +106,8 @@ module _ {permits : ℕ → Form} (form : Reduces permits) where
       ended = o .ended;
       atLast =
           cyclic
-          (not-yes (λ e. o .notBoth (both-is-a-fault (o .scheme .only) (o .scheme .removals) .exactly .0 e)))
+          (not-yes (λ e. o .notBoth
+          (both-is-a-fault (o .scheme .maximal .only) (o .scheme .maximal .removals) .exactly .0 e)))
           (left-cyclic (accepted-well-formed (o .accepted)) (o .cycle));
     },
   )

@@ -1,12 +1,13 @@
 -- What a record without a fault has, by its kind, and records by their variant.
--- In order: what a fault of 0 says, the variants that add nothing, rows, the kinds of a query, bodies cut short.
+-- In order: what a fault of 0 says, what a record is by its variant, rows, bodies cut short, where no whole record
+-- stands.
 -- Assumes nothing.
 use mathlib.Core.Path.{_≡_, refl, ap, sym, _∙_}
 use mathlib.Core.Bool.{Bool, true, false, not, _||_}
-use mathlib.Core.List.{List, [], _∷_}
+use mathlib.Core.List.{List, [], _∷_, _++_}
 use Prim.Native.Nat.{ℕ, _≤_, _<_}
 use native.Mathlib.Omega.{arith}
-use borrow.Author.Tests.{ltb-false, leb-false, not-false}
+use borrow.Author.Tests.{ne-eqb, ltb-false, leb-false, not-false}
 use lib.Dec.{ltb, leb}
 use lib.ListN.{getD}
 use types.Run.{OneOf, miss}
@@ -14,16 +15,16 @@ use denote.Enum.Declared.{tagOf}
 use Rattle.values.specs.Table.{Rules, keepsRules}
 use Rattle.values.proofs.Table.{rules-tested}
 use Rattle.records.specs.Checks.{firstOf}
-use Rattle.records.specs.Records.{ofBook, masksOf}
+use Rattle.records.specs.Records.{ofBook, kindOf, masksOf}
 use Rattle.records.specs.Walking.{shortNumber}
-use Rattle.records.proofs.Record.{the-type}
 use Rattle.records.proofs.Reading as ReadingType
 use Rattle.records.specs.declared.Reading.{Reading}
 use Rattle.records.specs.declared.Reading.the-variants.{Nothing, Unknown, Short, Found}
 use Rattle.records.specs.declared.Record.{Record}
-use Rattle.records.specs.declared.Record.the-variants.{Attribute, Object, Dependency, Row, Declared, Removed}
-use Rattle.records.specs.declared.Record.the-variants.{Comparisons, OnlyDeclared, Item}
-use Rattle.records.specs.declared.Record.the-variants.{CompareTwo, CompareConstant, End}
+use Rattle.records.specs.declared.BookRecord.{BookRecord}
+use Rattle.records.specs.declared.Record.the-variants.{OfBook}
+use Rattle.records.specs.declared.BookRecord.the-variants.{Attribute, Object, Dependency, Row, Declared, Removed}
+use Rattle.records.specs.declared.BookRecord.the-variants.{ComparisonTable}
 use Rattle.records.proofs.Checks.{none-first}
 use Rattle.scheme.specs.declared.Scheme.{Scheme}
 use Rattle.scheme.specs.Statements.{SomeObjects}
@@ -32,14 +33,14 @@ use Rattle.sets.proofs.Tests.{no-or}
 use Rattle.sets.proofs.Sets.{yes-has, no-has, yes-within, no-isEmpty}
 use Rattle.book.specs.Faults.{wrongCells, rowChecks, maximalChecks, checks, faultOf}
 use Rattle.book.specs.Declaring.{declare}
-use Rattle.book.specs.Reading.{isRow, stopNumber}
+use Rattle.book.specs.Reading.{isRow, withRow, stopNumber}
 use Rattle.book.specs.WellFormed.{SomeAttributes}
 
 -- ---- what a fault of 0 says of a record, by its kind
 
 -- the code has the record by its variant
-pub same-fault : (s : Scheme) {r q : Record} → r ≡ q → faultOf s r ≡ 0 → faultOf s q ≡ 0
-same-fault s e f = ap (faultOf s) (sym e) ∙ f
+pub same-fault : (s : Scheme) {r q : BookRecord} → r ≡ q → faultOf s (OfBook r) ≡ 0 → faultOf s (OfBook q) ≡ 0
+same-fault s e f = ap (λ (r : BookRecord). faultOf s (OfBook r)) (sym e) ∙ f
 
 pub record NewAttribute (s : Scheme) (id kind : ℕ) : Type 0 where
   pub below : id < 32
@@ -72,7 +73,8 @@ some-attributes : {attributes : ℕ} (s : ℕ) → isEmpty s ≡ false → not (
 some-attributes {attributes} s e w =
     record { filled = no-isEmpty s e; inside = yes-within s attributes (not-false (within s attributes) w) }
 
-pub attribute-accepted : (s : Scheme) (id kind : ℕ) → faultOf s (Attribute id kind) ≡ 0 → NewAttribute s id kind
+pub attribute-accepted : (s : Scheme) (id kind : ℕ) → faultOf s (OfBook (Attribute id kind)) ≡ 0
+    → NewAttribute s id kind
 unfolding faultOf checks
 attribute-accepted s id kind e =
     let range = none-first (ltb 31 id || ltb 3 kind) 5 _ (λ z. omega arith) e in
@@ -84,7 +86,8 @@ attribute-accepted s id kind e =
       new = no-has (s .attributes) id (new .0);
     }
 
-pub object-accepted : (s : Scheme) (number set : ℕ) → faultOf s (Object number set) ≡ 0 → NewObject s number set
+pub object-accepted : (s : Scheme) (number set : ℕ) → faultOf s (OfBook (Object number set)) ≡ 0
+    → NewObject s number set
 unfolding faultOf checks
 object-accepted s number set e =
     let range = none-first (ltb 31 number || isEmpty set || ltb 6 (count 32 set)) 5 _ (λ z. omega arith) e in
@@ -99,7 +102,7 @@ object-accepted s number set e =
       some = some-attributes set (filled .1) (inside .0);
     }
 
-pub dependency-accepted : (s : Scheme) (left right : ℕ) → faultOf s (Dependency left right) ≡ 0
+pub dependency-accepted : (s : Scheme) (left right : ℕ) → faultOf s (OfBook (Dependency left right)) ≡ 0
     → NewDependency s left right
 unfolding faultOf checks
 dependency-accepted s left right e =
@@ -130,15 +133,17 @@ maximal-accepted s n set e =
       };
     }
 
-pub declared-accepted : (s : Scheme) (set : ℕ) → faultOf s (Declared set) ≡ 0 → NewMaximal s (s .declarations) set
+pub declared-accepted : (s : Scheme) (set : ℕ) → faultOf s (OfBook (Declared set)) ≡ 0
+    → NewMaximal s (s .maximal .declarations) set
 unfolding faultOf checks
-declared-accepted s set e = maximal-accepted s (s .declarations) set e
+declared-accepted s set e = maximal-accepted s (s .maximal .declarations) set e
 
-pub removed-accepted : (s : Scheme) (set : ℕ) → faultOf s (Removed set) ≡ 0 → NewMaximal s (s .removals) set
+pub removed-accepted : (s : Scheme) (set : ℕ) → faultOf s (OfBook (Removed set)) ≡ 0
+    → NewMaximal s (s .maximal .removals) set
 unfolding faultOf checks
-removed-accepted s set e = maximal-accepted s (s .removals) set e
+removed-accepted s set e = maximal-accepted s (s .maximal .removals) set e
 
-pub row-accepted : (s : Scheme) (object c0 c1 c2 c3 c4 c5 : ℕ) → faultOf s (Row object c0 c1 c2 c3 c4 c5) ≡ 0
+pub row-accepted : (s : Scheme) (object c0 c1 c2 c3 c4 c5 : ℕ) → faultOf s (OfBook (Row object c0 c1 c2 c3 c4 c5)) ≡ 0
     → KnownRow s object (c0 ∷ c1 ∷ c2 ∷ c3 ∷ c4 ∷ c5 ∷ [])
 unfolding faultOf checks rowChecks
 row-accepted s object c0 c1 c2 c3 c4 c5 e =
@@ -149,72 +154,37 @@ row-accepted s object c0 c1 c2 c3 c4 c5 e =
 
 -- "Book kind 13, at most one", which keeps the rules
 pub record NewTable (s : Scheme) (names lengths angles dates : ℕ) : Type 0 where
-  pub room : s .tables < 1
+  pub room : s .table .given < 1
   pub rules : Rules (masksOf names lengths angles dates)
 
 pub table-accepted : (s : Scheme) (names lengths angles dates : ℕ)
-    → faultOf s (Comparisons names lengths angles dates) ≡ 0 → NewTable s names lengths angles dates
+    → faultOf s (OfBook (ComparisonTable names lengths angles dates)) ≡ 0 → NewTable s names lengths angles dates
 unfolding faultOf checks
 table-accepted s names lengths angles dates e =
-    let room = none-first (leb 1 (s .tables)) 4 _ (λ z. omega arith) e in
+    let room = none-first (leb 1 (s .table .given)) 4 _ (λ z. omega arith) e in
     let right = none-first (not (keepsRules (masksOf names lengths angles dates))) 20 [] (λ z. omega arith) (room .1) in
     record {
-      room = leb-false 1 (s .tables) (room .0);
+      room = leb-false 1 (s .table .given) (room .0);
       rules =
           rules-tested (masksOf names lengths angles dates) .0
           (not-false (keepsRules (masksOf names lengths angles dates)) (right .0));
     }
 
--- ---- the variants that add nothing
+-- ---- the fault of a record and what it adds, by its variant
 
-pub adds-nothing : (s : Scheme) (r : Record) → OneOf (3 ∷ 8 ∷ 9 ∷ 10 ∷ 11 ∷ []) (tagOf the-type r) → s ≡ declare s r
-unfolding declare
-adds-nothing s (Attribute id kind) h = absurd (miss (3 ∷ 8 ∷ 9 ∷ 10 ∷ 11 ∷ []) 0 tt h)
-adds-nothing s (Object number set) h = absurd (miss (3 ∷ 8 ∷ 9 ∷ 10 ∷ 11 ∷ []) 1 tt h)
-adds-nothing s (Dependency left right) h = absurd (miss (3 ∷ 8 ∷ 9 ∷ 10 ∷ 11 ∷ []) 2 tt h)
-adds-nothing s (Row object c0 c1 c2 c3 c4 c5) h = refl
-adds-nothing s (Declared set) h = absurd (miss (3 ∷ 8 ∷ 9 ∷ 10 ∷ 11 ∷ []) 4 tt h)
-adds-nothing s (Removed set) h = absurd (miss (3 ∷ 8 ∷ 9 ∷ 10 ∷ 11 ∷ []) 5 tt h)
-adds-nothing s (Comparisons names lengths angles dates) h = absurd (miss (3 ∷ 8 ∷ 9 ∷ 10 ∷ 11 ∷ []) 6 tt h)
-adds-nothing s OnlyDeclared h = absurd (miss (3 ∷ 8 ∷ 9 ∷ 10 ∷ 11 ∷ []) 7 tt h)
-adds-nothing s (Item variable attribute) h = refl
-adds-nothing s (CompareTwo variable attribute operator variable2 attribute2) h = refl
-adds-nothing s (CompareConstant variable attribute operator cell) h = refl
-adds-nothing s End h = refl
+pub of-variant : (s : Scheme) {n : ℕ} {r q : BookRecord} → n ≡ faultOf s (OfBook q) → r ≡ q → n ≡ faultOf s (OfBook r)
+of-variant s e p = e ∙ ap (λ (r : BookRecord). faultOf s (OfBook r)) (sym p)
 
--- ---- rows
+pub with-variant : (s : Scheme) {d : Scheme} {r q : BookRecord} → d ≡ declare s (OfBook q) → r ≡ q
+    → d ≡ declare s (OfBook r)
+with-variant s e p = e ∙ ap (λ (r : BookRecord). declare s (OfBook r)) (sym p)
 
-pub not-a-row : (r : Record) → OneOf (0 ∷ 1 ∷ 2 ∷ 4 ∷ 5 ∷ 6 ∷ 7 ∷ 8 ∷ 9 ∷ 10 ∷ 11 ∷ []) (tagOf the-type r) → false ≡ isRow r
-unfolding isRow
-not-a-row (Attribute id kind) h = refl
-not-a-row (Object number set) h = refl
-not-a-row (Dependency left right) h = refl
-not-a-row (Row object c0 c1 c2 c3 c4 c5) h = absurd (miss (0 ∷ 1 ∷ 2 ∷ 4 ∷ 5 ∷ 6 ∷ 7 ∷ 8 ∷ 9 ∷ 10 ∷ 11 ∷ []) 3 tt h)
-not-a-row (Declared set) h = refl
-not-a-row (Removed set) h = refl
-not-a-row (Comparisons names lengths angles dates) h = refl
-not-a-row OnlyDeclared h = refl
-not-a-row (Item variable attribute) h = refl
-not-a-row (CompareTwo variable attribute operator variable2 attribute2) h = refl
-not-a-row (CompareConstant variable attribute operator cell) h = refl
-not-a-row End h = refl
+-- ---- rows: a record of another kind adds no position
 
--- ---- the kinds of a query
-
-pub not-of-a-book : (s : Scheme) (r : Record) → OneOf (8 ∷ 9 ∷ 10 ∷ 11 ∷ []) (tagOf the-type r) → 2 ≡ faultOf s r
-unfolding faultOf checks firstOf
-not-of-a-book s (Attribute id kind) h = absurd (miss (8 ∷ 9 ∷ 10 ∷ 11 ∷ []) 0 tt h)
-not-of-a-book s (Object number set) h = absurd (miss (8 ∷ 9 ∷ 10 ∷ 11 ∷ []) 1 tt h)
-not-of-a-book s (Dependency left right) h = absurd (miss (8 ∷ 9 ∷ 10 ∷ 11 ∷ []) 2 tt h)
-not-of-a-book s (Row object c0 c1 c2 c3 c4 c5) h = absurd (miss (8 ∷ 9 ∷ 10 ∷ 11 ∷ []) 3 tt h)
-not-of-a-book s (Declared set) h = absurd (miss (8 ∷ 9 ∷ 10 ∷ 11 ∷ []) 4 tt h)
-not-of-a-book s (Removed set) h = absurd (miss (8 ∷ 9 ∷ 10 ∷ 11 ∷ []) 5 tt h)
-not-of-a-book s (Comparisons names lengths angles dates) h = absurd (miss (8 ∷ 9 ∷ 10 ∷ 11 ∷ []) 6 tt h)
-not-of-a-book s OnlyDeclared h = absurd (miss (8 ∷ 9 ∷ 10 ∷ 11 ∷ []) 7 tt h)
-not-of-a-book s (Item variable attribute) h = refl
-not-of-a-book s (CompareTwo variable attribute operator variable2 attribute2) h = refl
-not-of-a-book s (CompareConstant variable attribute operator cell) h = refl
-not-of-a-book s End h = refl
+pub no-row-added : (rows : List ℕ) (r : Record) (at : ℕ) → (kindOf r ≡ 4 → ⊥) → withRow rows r at ≡ rows
+unfolding withRow isRow
+no-row-added rows r at n =
+    ap (λ (b : Bool). elim b [ true ↦ rows ++ at ∷ [] | false ↦ rows ]) (ne-eqb (kindOf r) 4 n)
 
 -- ---- bodies cut short
 

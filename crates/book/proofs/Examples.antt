@@ -14,12 +14,15 @@ use Rattle.reduction.specs.Kept.{union, around, someHolds, removable, stays, st
 use Rattle.reduction.specs.Kept.{goes, keeps, keptOf}
 use Rattle.records.specs.Fields.{bytes, value, field}
 use Rattle.records.specs.Records.{kinds, whose, isKind, ofBook, bodyLength, kindOf, bytesOf, bytesOfAll}
+use Rattle.records.specs.Records.{bytesOfBook, bytesOfQuery}
 use Rattle.records.specs.Reader.{bodies, recordOf, readFront, readAt}
 use Rattle.records.specs.Checks.{firstOf}
 use Rattle.records.specs.Walking.{shortNumber, walkFrom, walk}
-use Rattle.records.specs.declared.Record.{Record}
-use Rattle.records.specs.declared.Record.the-variants.{Attribute, Object, Dependency, Row, Declared, Removed}
-use Rattle.records.specs.declared.Record.the-variants.{Comparisons, OnlyDeclared, Item}
+use Rattle.records.specs.declared.BookRecord.{BookRecord}
+use Rattle.records.specs.declared.Record.the-variants.{OfBook}
+use Rattle.records.specs.declared.BookRecord.the-variants.{Attribute, Object, Dependency, Row, Declared, Removed}
+use Rattle.records.specs.declared.BookRecord.the-variants.{ComparisonTable, OnlyDeclared}
+use Rattle.records.specs.declared.QueryRecord.the-variants.{Item}
 use Rattle.relation.specs.Tables.{cellOf, Table}
 use Rattle.scheme.specs.declared.Scheme.{Scheme}
 use Rattle.scheme.specs.Dependencies.{pass, passes, closure}
@@ -29,8 +32,8 @@ use Rattle.scheme.specs.MaximalObjects.{maximalObjects, bothKinds, someCyclic}
 use Rattle.scheme.specs.OfScheme.{pairs, computedOf, maximalOf, bothOf, cyclicOf}
 use Rattle.book.specs.Faults.{someNonZero, someOutside, wrongCells, rowChecks, maximalChecks}
 use Rattle.book.specs.Faults.{checks, faultOf}
-use Rattle.book.specs.Declaring.{nothingDeclared, withAttribute, withObject, withDependency, withDeclared}
-use Rattle.book.specs.Declaring.{withRemoved, withTable, withOnly, declare}
+use Rattle.book.specs.Declaring.{nothingDeclared, withAttribute, withObject, withDependency, withMaximal}
+use Rattle.book.specs.Declaring.{withTable, withDeclared, withRemoved, withOnly, withMasks, declare}
 use Rattle.book.specs.Reading.{Outcome, isRow, withRow, records, lastFault, afterLast}
 use Rattle.book.specs.Reading.{lastNumber, read, maximalsOf}
 use Rattle.book.specs.TablesOf.{cellsOf, rowOf, rowsOf, tablesOf}
@@ -39,7 +42,7 @@ use Rattle.book.specs.TablesOf.{cellsOf, rowOf, rowsOf, tablesOf}
 -- {0,3}; dependencies {0} to {2} and {0} to {3}. Rows: object 0 (10,501) (11,502) (12,503); object 1 (10,7) (11,7)
 -- (13,7); object 2 (10,-2500) (12,-900)."
 
-unfoldable pub survey : List Record
+unfoldable pub survey : List BookRecord
 survey =
     Attribute 0 0 ∷ Attribute 1 0 ∷ Attribute 2 0 ∷ Attribute 3 1
     ∷ Object 0 3 ∷ Object 1 5 ∷ Object 2 9
@@ -51,7 +54,7 @@ survey =
 
 -- ---- "Objects AB, BC, CA with A to B and B to C". Attributes: 0 A, 1 B, 2 C
 
-unfoldable pub ring : List Record
+unfoldable pub ring : List BookRecord
 ring =
     Attribute 0 0 ∷ Attribute 1 0 ∷ Attribute 2 0 ∷ Object 0 3 ∷ Object 1 6 ∷ Object 2 5
     ∷ Dependency 1 2 ∷ Dependency 2 4 ∷ []
@@ -59,24 +62,24 @@ ring =
 -- ---- comparison tables: the built-in one as a record, a word for each left kind, and a club's own, which has all six
 -- operators between names and dates too
 
-unfoldable pub asBuiltIn : Record
-asBuiltIn = Comparisons 3 16128 196608 1056964608
+unfoldable pub asBuiltIn : BookRecord
+asBuiltIn = ComparisonTable 3 16128 196608 1056964608
 
-unfoldable pub ofClub : Record
-ofClub = Comparisons 1056964611 16128 196608 1056964671
+unfoldable pub ofClub : BookRecord
+ofClub = ComparisonTable 1056964611 16128 196608 1056964671
 
 -- ---- small books: an angle with an object of it, and eight maximal objects declared
 
-unfoldable pub angles : List Record
+unfoldable pub angles : List BookRecord
 angles = Attribute 0 2 ∷ Object 0 1 ∷ []
 
-unfoldable pub eight : List Record
+unfoldable pub eight : List BookRecord
 eight =
     angles
     ++ Declared 1 ∷ Declared 1 ∷ Declared 1 ∷ Declared 1 ∷ Declared 1 ∷ Declared 1 ∷ Declared 1 ∷ Declared 1 ∷ []
 
 -- one record or two of each kind that declares something: attributes of all four value kinds, not in order
-unfoldable pub mixed : List Record
+unfoldable pub mixed : List BookRecord
 mixed =
     Attribute 4 0 ∷ Attribute 1 2 ∷ Attribute 0 3 ∷ Attribute 2 1
     ∷ Object 3 19 ∷ Object 1 6
@@ -89,8 +92,8 @@ mixed =
 unfoldable pub result : List ℕ → List ℕ
 result b = let o : Outcome = read b in o .number ∷ length (o .rows) ∷ maximalsOf o
 
-abbrev pub book : List Record → List ℕ
-book rs = result (bytesOfAll rs)
+abbrev pub book : List BookRecord → List ℕ
+book rs = result (bytesOfBook rs)
 
 pub record Trial : Type 0 where
   pub gives : List ℕ
@@ -107,8 +110,11 @@ trials =
     ∷ record { gives = book (ring ++ OnlyDeclared ∷ []); says = 0 ∷ 0 ∷ [] }  -- "only declared maximal objects count"
     ∷ record { gives = book (ring ++ OnlyDeclared ∷ Declared 3 ∷ OnlyDeclared ∷ []); says = 0 ∷ 0 ∷ 3 ∷ [] }
     ∷ record { gives = book (ring ++ Declared 7 ∷ OnlyDeclared ∷ Removed 1 ∷ []); says = 21 ∷ 0 ∷ 7 ∷ [] }  -- 21, not 9
-    ∷ record { gives = book (ring ++ Removed 7 ∷ OnlyDeclared ∷ Item 0 0 ∷ []); says = 2 ∷ 0 ∷ [] }  -- a record first
-    ∷ record { gives = book (Item 0 0 ∷ []); says = 2 ∷ 0 ∷ [] }  -- a kind of a query
+    ∷ record {  -- a record first
+      gives = result (bytesOfBook (ring ++ Removed 7 ∷ OnlyDeclared ∷ []) ++ bytesOfQuery (Item 0 0 ∷ []));
+      says = 2 ∷ 0 ∷ [];
+    }
+    ∷ record { gives = result (bytesOfQuery (Item 0 0 ∷ [])); says = 2 ∷ 0 ∷ [] }  -- a kind of a query
     ∷ record { gives = result (1 ∷ 0 ∷ []); says = 3 ∷ 0 ∷ [] }  -- a body cut short
     ∷ record { gives = result (8 ∷ 0 ∷ []); says = 2 ∷ 0 ∷ [] }  -- a kind of a query cut short
     ∷ record { gives = book (eight ++ Declared 0 ∷ []); says = 4 ∷ 0 ∷ [] }  -- 4 comes before 5
@@ -125,24 +131,25 @@ trials =
     ∷ record { gives = book (angles ++ asBuiltIn ∷ []); says = 0 ∷ 0 ∷ 1 ∷ [] }  -- a table that keeps the rules
     ∷ record { gives = book (ofClub ∷ angles); says = 0 ∷ 0 ∷ 1 ∷ [] }
     -- less between names and dates, and greater between dates and names
-    ∷ record { gives = book (Comparisons 67108867 16128 196608 1056964624 ∷ []); says = 0 ∷ 0 ∷ [] }
+    ∷ record { gives = book (ComparisonTable 67108867 16128 196608 1056964624 ∷ []); says = 0 ∷ 0 ∷ [] }
     -- "at most one (else 4)", also where the second breaks the rules
     ∷ record { gives = book (ofClub ∷ asBuiltIn ∷ []); says = 4 ∷ 0 ∷ [] }
-    ∷ record { gives = book (ofClub ∷ Comparisons 2 16128 196608 1056964608 ∷ []); says = 4 ∷ 0 ∷ [] }
+    ∷ record { gives = book (ofClub ∷ ComparisonTable 2 16128 196608 1056964608 ∷ []); says = 4 ∷ 0 ∷ [] }
     -- "20 a table that breaks this": bit 6 within lengths; less between names and dates, and nothing between dates and
     -- names; no equal within names, lengths, angles, dates
-    ∷ record { gives = book (Comparisons 3 32512 196608 1056964608 ∷ []); says = 20 ∷ 0 ∷ [] }
-    ∷ record { gives = book (Comparisons 67108867 16128 196608 1056964608 ∷ []); says = 20 ∷ 0 ∷ [] }
-    ∷ record { gives = book (Comparisons 2 16128 196608 1056964608 ∷ []); says = 20 ∷ 0 ∷ [] }
-    ∷ record { gives = book (Comparisons 3 15872 196608 1056964608 ∷ []); says = 20 ∷ 0 ∷ [] }
-    ∷ record { gives = book (Comparisons 3 16128 131072 1056964608 ∷ []); says = 20 ∷ 0 ∷ [] }
-    ∷ record { gives = book (Comparisons 3 16128 196608 1040187392 ∷ []); says = 20 ∷ 0 ∷ [] }
+    ∷ record { gives = book (ComparisonTable 3 32512 196608 1056964608 ∷ []); says = 20 ∷ 0 ∷ [] }
+    ∷ record { gives = book (ComparisonTable 67108867 16128 196608 1056964608 ∷ []); says = 20 ∷ 0 ∷ [] }
+    ∷ record { gives = book (ComparisonTable 2 16128 196608 1056964608 ∷ []); says = 20 ∷ 0 ∷ [] }
+    ∷ record { gives = book (ComparisonTable 3 15872 196608 1056964608 ∷ []); says = 20 ∷ 0 ∷ [] }
+    ∷ record { gives = book (ComparisonTable 3 16128 131072 1056964608 ∷ []); says = 20 ∷ 0 ∷ [] }
+    ∷ record { gives = book (ComparisonTable 3 16128 196608 1040187392 ∷ []); says = 20 ∷ 0 ∷ [] }
     ∷ record { gives = result (13 ∷ 3 ∷ 0 ∷ 0 ∷ 0 ∷ []); says = 3 ∷ 0 ∷ [] }  -- a table cut short
     ∷ []
 
 pub trials-hold : map (λ t. t .gives) trials ≡ map (λ t. t .says) trials
 unfolding trials survey ring angles eight asBuiltIn ofClub result read afterLast lastFault lastNumber records walk
-    walkFrom shortNumber withRow isRow maximalsOf declare withOnly withTable withRemoved withDeclared withDependency
+    walkFrom shortNumber withRow isRow maximalsOf declare withMaximal withTable withMasks withOnly withRemoved
+    withDeclared withDependency
     withObject withAttribute nothingDeclared keepsRules everyBelow entryKeeps mirrored builtIn faultOf checks
     maximalChecks rowChecks wrongCells someOutside someNonZero firstOf ofBook cyclicOf bothOf maximalOf computedOf pairs
     someCyclic counted bothKinds maximalObjects adding removing isOne computed grown rounds holding joins attributesOf
@@ -164,25 +171,30 @@ having dependencies declarations removals tables = record {
   left = replicate 64 0;
   right = replicate 64 0;
   dependencies = dependencies;
-  declared = replicate 8 0;
-  declarations = declarations;
-  removed = replicate 8 0;
-  removals = removals;
-  only = false;
-  table = builtIn;
-  tables = tables;
+  maximal = record {
+    declared = replicate 8 0;
+    declarations = declarations;
+    removed = replicate 8 0;
+    removals = removals;
+    only = false;
+  };
+  table = record { masks = builtIn; given = tables };
 }
 
-abbrev pub inside : Record → ℕ
-inside r = faultOf (having 0 0 0 0) r
+abbrev pub behind : ℕ → ℕ → ℕ → ℕ → BookRecord → ℕ
+behind dependencies declarations removals tables r =
+    faultOf (having dependencies declarations removals tables) (OfBook r)
+
+abbrev pub inside : BookRecord → ℕ
+inside r = behind 0 0 0 0 r
 
 -- the fault of a record at its bound, and one past it
 unfoldable pub bounds : List (List ℕ)
 bounds =
-    (faultOf (having 63 0 0 0) (Dependency 1 2) ∷ faultOf (having 64 0 0 0) (Dependency 1 2) ∷ [])
-    ∷ (faultOf (having 0 7 0 0) (Declared 2147483648) ∷ faultOf (having 0 8 0 0) (Declared 2147483648) ∷ [])
-    ∷ (faultOf (having 0 0 7 0) (Removed 2147483648) ∷ faultOf (having 0 0 8 0) (Removed 2147483648) ∷ [])
-    ∷ (faultOf (having 0 0 0 0) asBuiltIn ∷ faultOf (having 0 0 0 1) asBuiltIn ∷ [])
+    (behind 63 0 0 0 (Dependency 1 2) ∷ behind 64 0 0 0 (Dependency 1 2) ∷ [])
+    ∷ (behind 0 7 0 0 (Declared 2147483648) ∷ behind 0 8 0 0 (Declared 2147483648) ∷ [])
+    ∷ (behind 0 0 7 0 (Removed 2147483648) ∷ behind 0 0 8 0 (Removed 2147483648) ∷ [])
+    ∷ (behind 0 0 0 0 asBuiltIn ∷ behind 0 0 0 1 asBuiltIn ∷ [])
     ∷ (inside (Attribute 31 0) ∷ inside (Attribute 32 0) ∷ [])
     ∷ (inside (Attribute 7 3) ∷ inside (Attribute 7 4) ∷ [])
     ∷ (inside (Object 0 1) ∷ inside (Object 0 0) ∷ [])
@@ -203,20 +215,21 @@ bounds-hold = refl
 -- each with a place more; the comparison table; the sets of attributes and objects and the counts; the positions of the
 -- rows
 
-unfoldable pub declares : List Record → List (List ℕ)
+unfoldable pub declares : List BookRecord → List (List ℕ)
 declares rs =
-    let o : Outcome = read (bytesOfAll rs) in
+    let o : Outcome = read (bytesOfBook rs) in
     let s : Scheme = o .scheme in
-    take 6 (s .kinds) ∷ take 5 (s .sets) ∷ take 3 (s .left) ∷ take 3 (s .right) ∷ take 3 (s .declared)
-    ∷ take 2 (s .removed) ∷ s .table
-    ∷ (s .attributes ∷ s .objects ∷ s .dependencies ∷ s .declarations ∷ s .removals ∷ s .tables ∷ [])
+    take 6 (s .kinds) ∷ take 5 (s .sets) ∷ take 3 (s .left) ∷ take 3 (s .right) ∷ take 3 (s .maximal .declared)
+    ∷ take 2 (s .maximal .removed) ∷ s .table .masks
+    ∷ (s .attributes ∷ s .objects ∷ s .dependencies ∷ s .maximal .declarations ∷ s .maximal .removals
+    ∷ s .table .given ∷ [])
     ∷ o .rows ∷ []
 
 -- ---- tables: for each object of M its set, then its rows
 
-unfoldable pub tables : List Record → ℕ → List (List ℕ)
+unfoldable pub tables : List BookRecord → ℕ → List (List ℕ)
 tables rs M =
-    let b : List ℕ = bytesOfAll rs in
+    let b : List ℕ = bytesOfBook rs in
     flatMap (λ (T : Table). (T .set ∷ []) ∷ T .rows) (tablesOf b (read b) M)
 
 -- a row of two cells: "cells not needed are zero"
@@ -258,7 +271,8 @@ layouts =
 
 pub layouts-hold : map (λ l. l .gives) layouts ≡ map (λ l. l .says) layouts
 unfolding layouts declares tables flatMap tablesOf rowsOf rowOf cellsOf survey mixed ofClub read afterLast lastFault
-    lastNumber records walk walkFrom shortNumber withRow isRow declare withOnly withTable withRemoved withDeclared
+    lastNumber records walk walkFrom shortNumber withRow isRow declare withMaximal withTable withMasks withOnly
+    withRemoved withDeclared
     withDependency withObject withAttribute nothingDeclared keepsRules everyBelow entryKeeps mirrored builtIn faultOf
     checks maximalChecks rowChecks wrongCells someOutside someNonZero firstOf ofBook cyclicOf bothOf maximalOf
     computedOf pairs someCyclic counted bothKinds maximalObjects adding removing isOne computed grown rounds holding

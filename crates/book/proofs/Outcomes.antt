@@ -14,13 +14,12 @@ use lib.ListN.{length}
 use Rattle.sets.proofs.Tests.{yes-no}
 use Rattle.sets.proofs.Numbers.{lt-or-le}
 use Rattle.records.specs.Checks.{firstOf}
-use Rattle.records.specs.Records.{kinds, whose, isKind, ofBook, kindOf}
+use Rattle.records.specs.Records.{whose, isKind, ofBook, kindOf}
 use Rattle.records.specs.Walking as Walking
 use Rattle.records.specs.Walking.{Sound, Stop, notAllowed, cutShort, wrong, StopsAt}
 use Rattle.records.specs.declared.Record.{Record}
-use Rattle.records.specs.declared.Record.the-variants.{Attribute, Object, Dependency, Row, Declared, Removed}
-use Rattle.records.specs.declared.Record.the-variants.{Comparisons, OnlyDeclared, Item}
-use Rattle.records.specs.declared.Record.the-variants.{CompareTwo, CompareConstant, End}
+use Rattle.records.specs.declared.Record.the-variants.{OfBook, OfQuery}
+use Rattle.records.proofs.Records.{of-book-kind}
 use Rattle.records.proofs.Walking.{walk-stops, stops-walk}
 use Rattle.scheme.specs.declared.Scheme.{Scheme}
 use Rattle.scheme.specs.OfScheme.{bothOf, cyclicOf}
@@ -40,19 +39,9 @@ no-kind-no-book k e = ap (λ (w : ℕ). eqb w 1) (eqb-true (whose k) 0 (not-fals
 
 -- a record of another kind has the fault 2
 fault-not-of-book : (s : Scheme) (r : Record) → ofBook (kindOf r) ≡ false → faultOf s r ≡ 2
-unfolding kindOf ofBook whose kinds faultOf checks firstOf
-fault-not-of-book s (Attribute id kind) e = absurd (yes-no refl e)
-fault-not-of-book s (Object number set) e = absurd (yes-no refl e)
-fault-not-of-book s (Dependency left right) e = absurd (yes-no refl e)
-fault-not-of-book s (Row object c0 c1 c2 c3 c4 c5) e = absurd (yes-no refl e)
-fault-not-of-book s (Declared set) e = absurd (yes-no refl e)
-fault-not-of-book s (Removed set) e = absurd (yes-no refl e)
-fault-not-of-book s (Comparisons names lengths angles dates) e = absurd (yes-no refl e)
-fault-not-of-book s OnlyDeclared e = absurd (yes-no refl e)
-fault-not-of-book s (Item variable attribute) e = refl
-fault-not-of-book s (CompareTwo variable attribute operator variable2 attribute2) e = refl
-fault-not-of-book s (CompareConstant variable attribute operator cell) e = refl
-fault-not-of-book s End e = refl
+unfolding faultOf checks firstOf
+fault-not-of-book s (OfBook r) e = absurd (yes-no (of-book-kind r) e)
+fault-not-of-book s (OfQuery r) e = refl
 
 bookSound : Sound bookRules
 bookSound = record { known = no-kind-no-book; others = λ h r. fault-not-of-book (h .scheme) r }

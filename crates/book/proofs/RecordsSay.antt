@@ -12,7 +12,7 @@ use native.Mathlib.Nat.{add-zero, zero-add, not-suc-le-zero, le-of-suc-le-suc}
 use native.Mathlib.Omega.{arith}
 use borrow.Author.Tests.{eq-eqb, ne-eqb}
 use lib.Dec.{eqb}
-use lib.ListN.{length, getD, drop, set, length-append}
+use lib.ListN.{length, getD, take, drop, set, length-append}
 use lib.Seq.{getD-set-same, getD-set-other}
 use Rattle.sets.specs.Sets.{_∈_, _∉_, insert, single, rank, members}
 use Rattle.sets.proofs.Bits.{in-out, not-in}
@@ -21,25 +21,29 @@ use Rattle.sets.proofs.Ranks.{rank-lt}
 use Rattle.sets.proofs.Members.{length-members, getD-members}
 use Rattle.sets.proofs.Sets.{∪-cases, ∪-left, in-single, insert-in, zero-out}
 use Rattle.records.specs.Fields.{field}
-use Rattle.records.specs.Records.{kinds, bodyLength, kindOf, bytesOf, bytesOfAll}
+use Rattle.records.specs.Records.{kinds, bodyLength, kindOf, masksOf, bytesOf, bytesOfAll}
 use Rattle.records.specs.Reader.{bodies, recordOf, readAt, Reads, done, more}
+use Rattle.records.specs.Checks.{firstOf}
 use Rattle.records.specs.Walking.{none, one}
 use Rattle.records.specs.declared.Record.{Record}
-use Rattle.records.specs.declared.Record.the-variants.{Attribute, Object, Dependency, Row, Declared, Removed}
-use Rattle.records.specs.declared.Record.the-variants.{Comparisons, OnlyDeclared, Item}
-use Rattle.records.specs.declared.Record.the-variants.{CompareTwo, CompareConstant, End}
+use Rattle.records.specs.declared.BookRecord.{BookRecord}
+use Rattle.records.specs.declared.Record.the-variants.{OfBook, OfQuery}
+use Rattle.records.specs.declared.BookRecord.the-variants.{Attribute, Object, Dependency, Row, Declared, Removed}
+use Rattle.records.specs.declared.BookRecord.the-variants.{ComparisonTable, OnlyDeclared}
 use Rattle.records.specs.declared.Reading.the-variants.{Found}
 use Rattle.records.proofs.Fields.{field-drop}
+use Rattle.records.proofs.Records.{RowOrNot, aRow, anotherKind, row-or-not}
 use Rattle.records.proofs.Reader.{whole-readAt}
 use Rattle.records.proofs.Theorems.{kind-then-body}
 use Rattle.relation.specs.Tables as Tables
 use Rattle.relation.specs.BookRows as BookRows
 use Rattle.scheme.specs.declared.Scheme.{Scheme}
-use Rattle.scheme.specs.OfScheme.{pairs, dependenciesOf, declaredOf, removedOf}
-use Rattle.book.specs.Faults.{faultOf}
-use Rattle.book.specs.Declaring.{nothingDeclared, declare, withAttribute, withObject, withDependency}
-use Rattle.book.specs.Declaring.{withDeclared}
-use Rattle.book.specs.Declaring.{withRemoved, withTable, withOnly}
+use Rattle.scheme.specs.declared.MaximalRecords.{MaximalRecords}
+use Rattle.scheme.specs.declared.TableOfMasks.{TableOfMasks}
+use Rattle.scheme.specs.OfScheme.{pairs, dependenciesOf}
+use Rattle.book.specs.Faults.{checks, faultOf}
+use Rattle.book.specs.Declaring.{nothingDeclared, declare, withAttribute, withObject, withDependency, withMaximal}
+use Rattle.book.specs.Declaring.{withTable, withDeclared, withRemoved, withOnly, withMasks}
 use Rattle.book.specs.Reading.{Outcome, Held, isRow, withRow}
 use Rattle.book.specs.Accepting.{AcceptedAs}
 use Rattle.book.specs.WellFormed.{WellFormed}
@@ -48,22 +52,23 @@ use Rattle.records.specs.Gathered.{Gathered, ended}
 use Rattle.records.proofs.Gathered.{gathered-more, gathered-same}
 use Rattle.book.specs.RecordsSay.{SaysDependency, SaysDeclared, SaysRemoved}
 use Rattle.book.specs.RecordsSay.{SaysRow, ByNumber, ZeroFrom, SchemeSaid, RowsAt, behindLast, row, noRow}
-use Rattle.book.specs.RecordsSay.{ComparisonsSaid, builtInOne, ownOne}
+use Rattle.book.specs.RecordsSay.{MaximalSaid, ComparisonsSaid, builtInOne, ownOne}
 use Rattle.book.specs.RecordsSay.{RowsSaid}
 use Rattle.book.specs.RecordsSay.{TableSaid}
 use Rattle.book.proofs.Lists.{getD-zeros}
 use Rattle.book.proofs.Declaring.{NewAttribute, NewObject, NewDependency, NewMaximal, attribute-accepted}
 use Rattle.book.proofs.Declaring.{object-accepted, dependency-accepted, declared-accepted, removed-accepted}
-use Rattle.book.proofs.Declaring.{NewTable, table-accepted}
+use Rattle.book.proofs.Declaring.{NewTable, table-accepted, no-row-added}
 use Rattle.book.proofs.WellFormed.{take-more, pairs-more, accepted-well-formed}
 
 -- ---- one record more
 
-module _ {says : ℕ → ℕ → Record} {rs : List Record} {numbers : ℕ} {fields : List ℕ}
+module _ {says : ℕ → ℕ → BookRecord} {rs : List Record} {numbers : ℕ} {fields : List ℕ}
     (k : ByNumber says rs numbers fields) where
   -- a record of a number that is not declared yet
-  by-number-more : (j w : ℕ) → ((i v : ℕ) → says i v ≡ says j w → (i ≡ j) × (v ≡ w)) → j ∉ numbers → j < length fields
-      → ByNumber says (rs ++ says j w ∷ []) (insert numbers j) (set fields j w)
+  by-number-more : (j w : ℕ) → ((i v : ℕ) → OfBook (says i v) ≡ OfBook (says j w) → (i ≡ j) × (v ≡ w)) → j ∉ numbers
+      → j < length fields
+      → ByNumber says (rs ++ OfBook (says j w) ∷ []) (insert numbers j) (set fields j w)
   by-number-more j w same new room = record { exactly = λ i v. (said i v, says-so i v); nothingElse = nothing-else }
     where
       here : getD (set fields j w) j 0 ≡ w
@@ -72,16 +77,17 @@ module _ {says : ℕ → ℕ → Record} {rs : List Record} {numbers : ℕ} {fie
       apart : {i : ℕ} → i ∈ numbers → i ≡ j → ⊥
       apart m e = in-out (subst (λ (x : ℕ). x ∈ numbers) e m) new
 
-      said : (i v : ℕ) → List·Memᴰ (says i v) (rs ++ says j w ∷ [])
+      said : (i v : ℕ) → List·Memᴰ (OfBook (says i v)) (rs ++ OfBook (says j w) ∷ [])
           → (i ∈ insert numbers j) × (getD (set fields j w) i 0 ≡ v)
       said i v m = ⊎-elim older newest (List·Memᴰ·append-cases rs m)
         where
-          older : List·Memᴰ (says i v) rs → (i ∈ insert numbers j) × (getD (set fields j w) i 0 ≡ v)
+          older : List·Memᴰ (OfBook (says i v)) rs → (i ∈ insert numbers j) × (getD (set fields j w) i 0 ≡ v)
           older p =
               let q = k .exactly i v .0 p in
               (∪-left (single j) (q .0), getD-set-other fields j i w 0 (apart (q .0)) ∙ q .1)
 
-          newest : List·Memᴰ (says i v) (says j w ∷ []) → (i ∈ insert numbers j) × (getD (set fields j w) i 0 ≡ v)
+          newest : List·Memᴰ (OfBook (says i v)) (OfBook (says j w) ∷ []) → (i ∈ insert numbers j)
+              × (getD (set fields j w) i 0 ≡ v)
           newest p =
               let q = same i v (List·Memᴰ·eq-of-singleton p) in (
                 subst (λ (x : ℕ). x ∈ insert numbers j) (sym (q .0)) (insert-in numbers j),
@@ -89,18 +95,19 @@ module _ {says : ℕ → ℕ → Record} {rs : List Record} {numbers : ℕ} {fie
               )
 
       says-so : (i v : ℕ) → (i ∈ insert numbers j) × (getD (set fields j w) i 0 ≡ v)
-          → List·Memᴰ (says i v) (rs ++ says j w ∷ [])
+          → List·Memᴰ (OfBook (says i v)) (rs ++ OfBook (says j w) ∷ [])
       says-so i v p = ⊎-elim older (λ m. newest (in-single m)) (∪-cases numbers (single j) (p .0))
         where
-          older : i ∈ numbers → List·Memᴰ (says i v) (rs ++ says j w ∷ [])
+          older : i ∈ numbers → List·Memᴰ (OfBook (says i v)) (rs ++ OfBook (says j w) ∷ [])
           older m =
-              Memᴰ·append-left (says j w ∷ [])
+              Memᴰ·append-left (OfBook (says j w) ∷ [])
               (k .exactly i v .1 (m, sym (getD-set-other fields j i w 0 (apart m)) ∙ p .1))
 
-          newest : i ≡ j → List·Memᴰ (says i v) (rs ++ says j w ∷ [])
+          newest : i ≡ j → List·Memᴰ (OfBook (says i v)) (rs ++ OfBook (says j w) ∷ [])
           newest e =
               let f : v ≡ w = sym (p .1) ∙ ap (λ (x : ℕ). getD (set fields j w) x 0) e ∙ here in
-              Memᴰ·append-right rs (List·Memᴰ·head (ap (λ (x : ℕ). says x v) e ∙ ap (says j) f))
+              Memᴰ·append-right rs
+              (List·Memᴰ·head (ap (λ (x : ℕ). OfBook (says x v)) e ∙ ap (λ (x : ℕ). OfBook (says j x)) f))
 
       nothing-else : (i : ℕ) → i ∉ insert numbers j → getD (set fields j w) i 0 ≡ 0
       nothing-else i o =
@@ -109,7 +116,7 @@ module _ {says : ℕ → ℕ → Record} {rs : List Record} {numbers : ℕ} {fie
           ∙ k .nothingElse i (not-in (λ m. in-out (∪-left (single j) m) o))
 
   -- a record that says nothing of this kind
-  by-number-same : {r : Record} → ((i v : ℕ) → says i v ≡ r → ⊥) → ByNumber says (rs ++ r ∷ []) numbers fields
+  by-number-same : {r : Record} → ((i v : ℕ) → OfBook (says i v) ≡ r → ⊥) → ByNumber says (rs ++ r ∷ []) numbers fields
   by-number-same {r} n = record {
     exactly = λ i v. (
       λ m. k .exactly i v .0
@@ -126,11 +133,11 @@ zero-from-set n l x z i h = getD-set-other l n i x 0 (λ e. omega arith) ∙ z i
 
 -- what a record of another kind does not say
 module _ (r : Record) where
-  no-attribute : (kindOf r ≡ 1 → ⊥) → (i v : ℕ) → Attribute i v ≡ r → ⊥
+  no-attribute : (kindOf r ≡ 1 → ⊥) → (i v : ℕ) → OfBook (Attribute i v) ≡ r → ⊥
   unfolding kindOf
   no-attribute n i v e = n (ap kindOf (sym e))
 
-  no-object : (kindOf r ≡ 2 → ⊥) → (i v : ℕ) → Object i v ≡ r → ⊥
+  no-object : (kindOf r ≡ 2 → ⊥) → (i v : ℕ) → OfBook (Object i v) ≡ r → ⊥
   unfolding kindOf
   no-object n i v e = n (ap kindOf (sym e))
 
@@ -146,11 +153,11 @@ module _ (r : Record) where
   unfolding kindOf
   no-removed n M e = n (ap kindOf e)
 
-  no-table : (kindOf r ≡ 13 → ⊥) → (n l a d : ℕ) → Comparisons n l a d ≡ r → ⊥
+  no-table : (kindOf r ≡ 13 → ⊥) → (n l a d : ℕ) → OfBook (ComparisonTable n l a d) ≡ r → ⊥
   unfolding kindOf
   no-table k n l a d e = k (ap kindOf (sym e))
 
-  no-only : (kindOf r ≡ 14 → ⊥) → OnlyDeclared ≡ r → ⊥
+  no-only : (kindOf r ≡ 14 → ⊥) → OfBook OnlyDeclared ≡ r → ⊥
   unfolding kindOf
   no-only n e = n (ap kindOf (sym e))
 
@@ -172,117 +179,116 @@ nothing-said = record {
     nothingElse = λ i o. getD-zeros 32 i;
   };
   dependencies = ended;
-  declared = ended;
-  removed = ended;
-  only = (λ y. absurd (false≢true y), λ m. absurd (List·Memᴰ·not-nil m));
-  comparisons = builtInOne (λ n l a d m. absurd (List·Memᴰ·not-nil m)) refl refl;
   leftBehind = λ i h. getD-zeros 64 i;
   rightBehind = λ i h. getD-zeros 64 i;
-  declaredBehind = λ i h. getD-zeros 8 i;
-  removedBehind = λ i h. getD-zeros 8 i;
+  maximal = record {
+    declared = ended;
+    removed = ended;
+    only = (λ y. absurd (false≢true y), λ m. absurd (List·Memᴰ·not-nil m));
+    declaredBehind = λ i h. getD-zeros 8 i;
+    removedBehind = λ i h. getD-zeros 8 i;
+  };
+  comparisons = builtInOne (λ n l a d m. absurd (List·Memᴰ·not-nil m)) refl refl;
 }
 
 -- what a record says nothing of stays as it is; its kind is not the one of those records
-module _ (r : Record) {rs : List Record} {s : Scheme} (v : SchemeSaid rs s) where
-  same-attributes : (kindOf r ≡ 1 → ⊥) → ByNumber Attribute (rs ++ r ∷ []) (s .attributes) (s .kinds)
-  same-attributes n = by-number-same (v .attributes) (no-attribute r n)
+module _ (r : Record) {rs : List Record} where
+  module _ {m : MaximalRecords} (v : MaximalSaid rs m) where
+    same-declared : (kindOf r ≡ 5 → ⊥) → Gathered SaysDeclared (rs ++ r ∷ []) (take (m .declarations) (m .declared))
+    same-declared n = gathered-same SaysDeclared r (no-declared r n) (v .declared)
 
-  same-objects : (kindOf r ≡ 2 → ⊥) → ByNumber Object (rs ++ r ∷ []) (s .objects) (s .sets)
-  same-objects n = by-number-same (v .objects) (no-object r n)
+    same-removed : (kindOf r ≡ 6 → ⊥) → Gathered SaysRemoved (rs ++ r ∷ []) (take (m .removals) (m .removed))
+    same-removed n = gathered-same SaysRemoved r (no-removed r n) (v .removed)
 
-  same-dependencies : (kindOf r ≡ 3 → ⊥) → Gathered SaysDependency (rs ++ r ∷ []) (dependenciesOf s)
-  same-dependencies n = gathered-same SaysDependency r (no-dependency r n) (v .dependencies)
+    same-only : (kindOf r ≡ 14 → ⊥) → (m .only ≡ true) ↔ List·Memᴰ (OfBook OnlyDeclared) (rs ++ r ∷ [])
+    same-only n = (
+      λ y. Memᴰ·append-left (r ∷ []) (v .only .0 y),
+      λ i. v .only .1
+          (⊎-elim (λ p. p) (λ p. absurd (no-only r n (List·Memᴰ·eq-of-singleton p))) (List·Memᴰ·append-cases rs i)),
+    )
 
-  same-declared : (kindOf r ≡ 5 → ⊥) → Gathered SaysDeclared (rs ++ r ∷ []) (declaredOf s)
-  same-declared n = gathered-same SaysDeclared r (no-declared r n) (v .declared)
+    same-maximal : (kindOf r ≡ 5 → ⊥) → (kindOf r ≡ 6 → ⊥) → (kindOf r ≡ 14 → ⊥) → MaximalSaid (rs ++ r ∷ []) m
+    same-maximal d x o = record {
+      declared = same-declared d;
+      removed = same-removed x;
+      only = same-only o;
+      declaredBehind = v .declaredBehind;
+      removedBehind = v .removedBehind;
+    }
 
-  same-removed : (kindOf r ≡ 6 → ⊥) → Gathered SaysRemoved (rs ++ r ∷ []) (removedOf s)
-  same-removed n = gathered-same SaysRemoved r (no-removed r n) (v .removed)
+  same-table : {t : TableOfMasks} → (kindOf r ≡ 13 → ⊥) → ComparisonsSaid rs t → ComparisonsSaid (rs ++ r ∷ []) t
+  same-table k (builtInOne lacks z b) =
+      builtInOne
+      (λ n l a d m.
+      ⊎-elim (λ p. lacks n l a d p) (λ p. no-table r k n l a d (List·Memᴰ·eq-of-singleton p))
+      (List·Memᴰ·append-cases rs m))
+      z b
+  same-table k (ownOne n l a d m o b) = ownOne n l a d (Memᴰ·append-left (r ∷ []) m) o b
 
-  same-only : (kindOf r ≡ 14 → ⊥) → (s .only ≡ true) ↔ List·Memᴰ OnlyDeclared (rs ++ r ∷ [])
-  same-only n = (
-    λ y. Memᴰ·append-left (r ∷ []) (v .only .0 y),
-    λ m. v .only .1
-        (⊎-elim (λ p. p) (λ p. absurd (no-only r n (List·Memᴰ·eq-of-singleton p))) (List·Memᴰ·append-cases rs m)),
-  )
+  module _ {s : Scheme} (v : SchemeSaid rs s) where
+    same-attributes : (kindOf r ≡ 1 → ⊥) → ByNumber Attribute (rs ++ r ∷ []) (s .attributes) (s .kinds)
+    same-attributes n = by-number-same (v .attributes) (no-attribute r n)
 
-  -- in a scheme with the same table
-  same-table : {t : Scheme} → (kindOf r ≡ 13 → ⊥) → t .table ≡ s .table → t .tables ≡ s .tables
-      → ComparisonsSaid (rs ++ r ∷ []) t
-  same-table {t} k e f = by (v .comparisons)
-    where
-      by : ComparisonsSaid rs s → ComparisonsSaid (rs ++ r ∷ []) t
-      by (builtInOne lacks z b) =
-          builtInOne
-          (λ n l a d m.
-          ⊎-elim (λ p. lacks n l a d p) (λ p. no-table r k n l a d (List·Memᴰ·eq-of-singleton p))
-          (List·Memᴰ·append-cases rs m))
-          (f ∙ z) (e ∙ b)
-      by (ownOne n l a d m o b) = ownOne n l a d (Memᴰ·append-left (r ∷ []) m) (f ∙ o) (e ∙ b)
+    same-objects : (kindOf r ≡ 2 → ⊥) → ByNumber Object (rs ++ r ∷ []) (s .objects) (s .sets)
+    same-objects n = by-number-same (v .objects) (no-object r n)
 
-  -- a record of another kind than 1, 2, 3, 5, 6, 13 and 14 leaves the scheme as it is
-  says-nothing : (kindOf r ≡ 4) ⊎ (7 ≤ kindOf r) × (kindOf r ≤ 10) → SchemeSaid (rs ++ r ∷ []) s
-  says-nothing late = record {
-    attributes = same-attributes (λ e. ⊎-elim (λ z. omega arith) (λ z. omega arith) late);
-    objects = same-objects (λ e. ⊎-elim (λ z. omega arith) (λ z. omega arith) late);
-    dependencies = same-dependencies (λ e. ⊎-elim (λ z. omega arith) (λ z. omega arith) late);
-    declared = same-declared (λ e. ⊎-elim (λ z. omega arith) (λ z. omega arith) late);
-    removed = same-removed (λ e. ⊎-elim (λ z. omega arith) (λ z. omega arith) late);
-    only = same-only (λ e. ⊎-elim (λ z. omega arith) (λ z. omega arith) late);
-    comparisons = same-table (λ e. ⊎-elim (λ z. omega arith) (λ z. omega arith) late) refl refl;
-    leftBehind = v .leftBehind;
-    rightBehind = v .rightBehind;
-    declaredBehind = v .declaredBehind;
-    removedBehind = v .removedBehind;
-  }
+    same-dependencies : (kindOf r ≡ 3 → ⊥) → Gathered SaysDependency (rs ++ r ∷ []) (dependenciesOf s)
+    same-dependencies n = gathered-same SaysDependency r (no-dependency r n) (v .dependencies)
+
+    -- a record of another kind than 1, 2, 3 and 13
+    says-maximal : {m : MaximalRecords} → (kindOf r ≡ 1 → ⊥) → (kindOf r ≡ 2 → ⊥) → (kindOf r ≡ 3 → ⊥)
+        → (kindOf r ≡ 13 → ⊥) → MaximalSaid (rs ++ r ∷ []) m → SchemeSaid (rs ++ r ∷ []) (withMaximal s m)
+    unfolding withMaximal
+    says-maximal a o d t m = record {
+      attributes = same-attributes a;
+      objects = same-objects o;
+      dependencies = same-dependencies d;
+      leftBehind = v .leftBehind;
+      rightBehind = v .rightBehind;
+      maximal = m;
+      comparisons = same-table t (v .comparisons);
+    }
 
 module _ {rs : List Record} {s : Scheme} (w : WellFormed s) (v : SchemeSaid rs s) where
   attribute-said : (id kind : ℕ) → NewAttribute s id kind
-      → SchemeSaid (rs ++ Attribute id kind ∷ []) (withAttribute s id kind)
+      → SchemeSaid (rs ++ OfBook (Attribute id kind) ∷ []) (withAttribute s id kind)
   unfolding withAttribute kindOf
   attribute-said id kind n =
-      let r = Attribute id kind in
+      let r = OfBook (Attribute id kind) in
       record {
         attributes =
-            by-number-more (v .attributes) id kind (λ i x e. (cc, cc)) (n .new) (omega (arith, n .below, w .arrays .kinds));
+            by-number-more (v .attributes) id kind (λ i x e. (cc, cc)) (n .new)
+            (omega (arith, n .below, w .arrays .kinds));
         objects = same-objects r v (λ e. omega arith);
         dependencies = same-dependencies r v (λ e. omega arith);
-        declared = same-declared r v (λ e. omega arith);
-        removed = same-removed r v (λ e. omega arith);
-        only = same-only r v (λ e. omega arith);
-        comparisons = same-table r v (λ e. omega arith) refl refl;
         leftBehind = v .leftBehind;
         rightBehind = v .rightBehind;
-        declaredBehind = v .declaredBehind;
-        removedBehind = v .removedBehind;
+        maximal = same-maximal r (v .maximal) (λ e. omega arith) (λ e. omega arith) (λ e. omega arith);
+        comparisons = same-table r (λ e. omega arith) (v .comparisons);
       }
 
   object-said : (number attributes : ℕ) → NewObject s number attributes
-      → SchemeSaid (rs ++ Object number attributes ∷ []) (withObject s number attributes)
+      → SchemeSaid (rs ++ OfBook (Object number attributes) ∷ []) (withObject s number attributes)
   unfolding withObject kindOf
   object-said number attributes n =
-      let r = Object number attributes in
+      let r = OfBook (Object number attributes) in
       record {
         attributes = same-attributes r v (λ e. omega arith);
         objects =
             by-number-more (v .objects) number attributes (λ i x e. (cc, cc)) (n .new)
             (omega (arith, n .below, w .arrays .sets));
         dependencies = same-dependencies r v (λ e. omega arith);
-        declared = same-declared r v (λ e. omega arith);
-        removed = same-removed r v (λ e. omega arith);
-        only = same-only r v (λ e. omega arith);
-        comparisons = same-table r v (λ e. omega arith) refl refl;
         leftBehind = v .leftBehind;
         rightBehind = v .rightBehind;
-        declaredBehind = v .declaredBehind;
-        removedBehind = v .removedBehind;
+        maximal = same-maximal r (v .maximal) (λ e. omega arith) (λ e. omega arith) (λ e. omega arith);
+        comparisons = same-table r (λ e. omega arith) (v .comparisons);
       }
 
   dependency-said : (left right : ℕ) → NewDependency s left right
-      → SchemeSaid (rs ++ Dependency left right ∷ []) (withDependency s left right)
+      → SchemeSaid (rs ++ OfBook (Dependency left right) ∷ []) (withDependency s left right)
   unfolding withDependency kindOf
   dependency-said left right n =
-      let r = Dependency left right in
+      let r = OfBook (Dependency left right) in
       record {
         attributes = same-attributes r v (λ e. omega arith);
         objects = same-objects r v (λ e. omega arith);
@@ -291,113 +297,106 @@ module _ {rs : List Record} {s : Scheme} (w : WellFormed s) (v : SchemeSaid rs s
             (sym (pairs-more (s .dependencies) (s .left) (s .right) left right
             (omega (arith, n .room, w .arrays .left)) (omega (arith, n .room, w .arrays .right))))
             (gathered-more SaysDependency r (record { left = left; right = right }) refl (v .dependencies));
-        declared = same-declared r v (λ e. omega arith);
-        removed = same-removed r v (λ e. omega arith);
-        only = same-only r v (λ e. omega arith);
-        comparisons = same-table r v (λ e. omega arith) refl refl;
         leftBehind = zero-from-set (s .dependencies) (s .left) left (v .leftBehind);
         rightBehind = zero-from-set (s .dependencies) (s .right) right (v .rightBehind);
-        declaredBehind = v .declaredBehind;
-        removedBehind = v .removedBehind;
+        maximal = same-maximal r (v .maximal) (λ e. omega arith) (λ e. omega arith) (λ e. omega arith);
+        comparisons = same-table r (λ e. omega arith) (v .comparisons);
       }
 
-  declared-said : (M : ℕ) → NewMaximal s (s .declarations) M → SchemeSaid (rs ++ Declared M ∷ []) (withDeclared s M)
+  declared-said : (M : ℕ) → NewMaximal s (s .maximal .declarations) M
+      → SchemeSaid (rs ++ OfBook (Declared M) ∷ []) (withMaximal s (withDeclared (s .maximal) M))
   unfolding withDeclared kindOf
   declared-said M n =
-      let r = Declared M in
-      record {
-        attributes = same-attributes r v (λ e. omega arith);
-        objects = same-objects r v (λ e. omega arith);
-        dependencies = same-dependencies r v (λ e. omega arith);
+      let r = OfBook (Declared M) in
+      let m = s .maximal in
+      says-maximal r v (λ e. omega arith) (λ e. omega arith) (λ e. omega arith) (λ e. omega arith)
+      (record {
         declared =
             subst (Gathered SaysDeclared (rs ++ r ∷ []))
-            (sym (take-more (s .declared) (s .declarations) M (omega (arith, n .room, w .arrays .declared))))
-            (gathered-more SaysDeclared r M refl (v .declared));
-        removed = same-removed r v (λ e. omega arith);
-        only = same-only r v (λ e. omega arith);
-        comparisons = same-table r v (λ e. omega arith) refl refl;
-        leftBehind = v .leftBehind;
-        rightBehind = v .rightBehind;
-        declaredBehind = zero-from-set (s .declarations) (s .declared) M (v .declaredBehind);
-        removedBehind = v .removedBehind;
-      }
+            (sym (take-more (m .declared) (m .declarations) M (omega (arith, n .room, w .arrays .maximal .declared))))
+            (gathered-more SaysDeclared r M refl (v .maximal .declared));
+        removed = same-removed r (v .maximal) (λ e. omega arith);
+        only = same-only r (v .maximal) (λ e. omega arith);
+        declaredBehind = zero-from-set (m .declarations) (m .declared) M (v .maximal .declaredBehind);
+        removedBehind = v .maximal .removedBehind;
+      })
 
-  removed-said : (M : ℕ) → NewMaximal s (s .removals) M → SchemeSaid (rs ++ Removed M ∷ []) (withRemoved s M)
+  removed-said : (M : ℕ) → NewMaximal s (s .maximal .removals) M
+      → SchemeSaid (rs ++ OfBook (Removed M) ∷ []) (withMaximal s (withRemoved (s .maximal) M))
   unfolding withRemoved kindOf
   removed-said M n =
-      let r = Removed M in
-      record {
-        attributes = same-attributes r v (λ e. omega arith);
-        objects = same-objects r v (λ e. omega arith);
-        dependencies = same-dependencies r v (λ e. omega arith);
-        declared = same-declared r v (λ e. omega arith);
+      let r = OfBook (Removed M) in
+      let m = s .maximal in
+      says-maximal r v (λ e. omega arith) (λ e. omega arith) (λ e. omega arith) (λ e. omega arith)
+      (record {
+        declared = same-declared r (v .maximal) (λ e. omega arith);
         removed =
             subst (Gathered SaysRemoved (rs ++ r ∷ []))
-            (sym (take-more (s .removed) (s .removals) M (omega (arith, n .room, w .arrays .removed))))
-            (gathered-more SaysRemoved r M refl (v .removed));
-        only = same-only r v (λ e. omega arith);
-        comparisons = same-table r v (λ e. omega arith) refl refl;
-        leftBehind = v .leftBehind;
-        rightBehind = v .rightBehind;
-        declaredBehind = v .declaredBehind;
-        removedBehind = zero-from-set (s .removals) (s .removed) M (v .removedBehind);
-      }
+            (sym (take-more (m .removed) (m .removals) M (omega (arith, n .room, w .arrays .maximal .removed))))
+            (gathered-more SaysRemoved r M refl (v .maximal .removed));
+        only = same-only r (v .maximal) (λ e. omega arith);
+        declaredBehind = v .maximal .declaredBehind;
+        removedBehind = zero-from-set (m .removals) (m .removed) M (v .maximal .removedBehind);
+      })
 
-  comparisons-said : (names lengths angles dates : ℕ) → NewTable s names lengths angles dates
-      → SchemeSaid (rs ++ Comparisons names lengths angles dates ∷ []) (withTable s names lengths angles dates)
-  unfolding withTable kindOf
-  comparisons-said names lengths angles dates n =
-      let r = Comparisons names lengths angles dates in
-      record {
-        attributes = same-attributes r v (λ e. omega arith);
-        objects = same-objects r v (λ e. omega arith);
-        dependencies = same-dependencies r v (λ e. omega arith);
-        declared = same-declared r v (λ e. omega arith);
-        removed = same-removed r v (λ e. omega arith);
-        only = same-only r v (λ e. omega arith);
-        comparisons =
-            ownOne names lengths angles dates (Memᴰ·append-right rs (List·Memᴰ·head refl)) (omega (arith, n .room)) refl;
-        leftBehind = v .leftBehind;
-        rightBehind = v .rightBehind;
-        declaredBehind = v .declaredBehind;
-        removedBehind = v .removedBehind;
-      }
-
-  only-said : SchemeSaid (rs ++ OnlyDeclared ∷ []) (withOnly s)
+  only-said : SchemeSaid (rs ++ OfBook OnlyDeclared ∷ []) (withMaximal s (withOnly (s .maximal)))
   unfolding withOnly kindOf
   only-said =
-      let r = OnlyDeclared in
+      let r = OfBook OnlyDeclared in
+      says-maximal r v (λ e. omega arith) (λ e. omega arith) (λ e. omega arith) (λ e. omega arith)
+      (record {
+        declared = same-declared r (v .maximal) (λ e. omega arith);
+        removed = same-removed r (v .maximal) (λ e. omega arith);
+        only = (λ y. Memᴰ·append-right rs (List·Memᴰ·head refl), λ m. refl);
+        declaredBehind = v .maximal .declaredBehind;
+        removedBehind = v .maximal .removedBehind;
+      })
+
+  table-replaced : (names lengths angles dates : ℕ) → NewTable s names lengths angles dates
+      → SchemeSaid (rs ++ OfBook (ComparisonTable names lengths angles dates) ∷ [])
+      (withTable s (withMasks (s .table) (masksOf names lengths angles dates)))
+  unfolding withTable withMasks kindOf
+  table-replaced names lengths angles dates n =
+      let r = OfBook (ComparisonTable names lengths angles dates) in
       record {
         attributes = same-attributes r v (λ e. omega arith);
         objects = same-objects r v (λ e. omega arith);
         dependencies = same-dependencies r v (λ e. omega arith);
-        declared = same-declared r v (λ e. omega arith);
-        removed = same-removed r v (λ e. omega arith);
-        only = (λ y. Memᴰ·append-right rs (List·Memᴰ·head refl), λ m. refl);
-        comparisons = same-table r v (λ e. omega arith) refl refl;
         leftBehind = v .leftBehind;
         rightBehind = v .rightBehind;
-        declaredBehind = v .declaredBehind;
-        removedBehind = v .removedBehind;
+        maximal = same-maximal r (v .maximal) (λ e. omega arith) (λ e. omega arith) (λ e. omega arith);
+        comparisons =
+            ownOne names lengths angles dates (Memᴰ·append-right rs (List·Memᴰ·head refl)) (omega (arith, n .room))
+            refl;
+      }
+
+  row-adds-nothing : (object c0 c1 c2 c3 c4 c5 : ℕ) → SchemeSaid (rs ++ OfBook (Row object c0 c1 c2 c3 c4 c5) ∷ []) s
+  unfolding kindOf
+  row-adds-nothing object c0 c1 c2 c3 c4 c5 =
+      let r = OfBook (Row object c0 c1 c2 c3 c4 c5) in
+      record {
+        attributes = same-attributes r v (λ e. omega arith);
+        objects = same-objects r v (λ e. omega arith);
+        dependencies = same-dependencies r v (λ e. omega arith);
+        leftBehind = v .leftBehind;
+        rightBehind = v .rightBehind;
+        maximal = same-maximal r (v .maximal) (λ e. omega arith) (λ e. omega arith) (λ e. omega arith);
+        comparisons = same-table r (λ e. omega arith) (v .comparisons);
       }
 
   declare-said : (r : Record) → faultOf s r ≡ 0 → SchemeSaid (rs ++ r ∷ []) (declare s r)
-  unfolding declare kindOf
-  declare-said (Attribute id kind) f = attribute-said id kind (attribute-accepted s id kind f)
-  declare-said (Object number set) f = object-said number set (object-accepted s number set f)
-  declare-said (Dependency left right) f = dependency-said left right (dependency-accepted s left right f)
-  declare-said (Row object c0 c1 c2 c3 c4 c5) f = says-nothing (Row object c0 c1 c2 c3 c4 c5) v (inl refl)
-  declare-said (Declared set) f = declared-said set (declared-accepted s set f)
-  declare-said (Removed set) f = removed-said set (removed-accepted s set f)
-  declare-said (Comparisons names lengths angles dates) f =
-      comparisons-said names lengths angles dates (table-accepted s names lengths angles dates f)
-  declare-said OnlyDeclared f = only-said
-  declare-said (Item variable attribute) f = says-nothing (Item variable attribute) v (inr (omega arith))
-  declare-said (CompareTwo variable attribute operator variable2 attribute2) f =
-      says-nothing (CompareTwo variable attribute operator variable2 attribute2) v (inr (omega arith))
-  declare-said (CompareConstant variable attribute operator cell) f =
-      says-nothing (CompareConstant variable attribute operator cell) v (inr (omega arith))
-  declare-said End f = says-nothing End v (inr (omega arith))
+  unfolding declare faultOf checks firstOf
+  declare-said (OfBook (Attribute id kind)) f = attribute-said id kind (attribute-accepted s id kind f)
+  declare-said (OfBook (Object number set)) f = object-said number set (object-accepted s number set f)
+  declare-said (OfBook (Dependency left right)) f = dependency-said left right (dependency-accepted s left right f)
+  declare-said (OfBook (Row object c0 c1 c2 c3 c4 c5)) f = row-adds-nothing object c0 c1 c2 c3 c4 c5
+  declare-said (OfBook (Declared set)) f = declared-said set (declared-accepted s set f)
+  declare-said (OfBook (Removed set)) f = removed-said set (removed-accepted s set f)
+  declare-said (OfBook (ComparisonTable names lengths angles dates)) f =
+      table-replaced names lengths angles dates (table-accepted s names lengths angles dates f)
+  declare-said (OfBook OnlyDeclared) f = only-said
+  -- no record of a query is accepted
+  declare-said (OfQuery r) f = absurd (omega (arith, f))
 
 pub accepted-scheme-said : {b : List ℕ} {rs : List Record} {h : Held} {at : ℕ} → AcceptedAs b rs h at
     → SchemeSaid rs (h .scheme)
@@ -471,8 +470,8 @@ rowsOf-more b (p ∷ rows) at k =
 module _ {b : List ℕ} {rs : List Record} {rows : List ℕ} {at next : ℕ} (v : RowsSaid b rs rows at)
     (here : at ≡ length (bytesOfAll rs)) where
   -- a row of object k adds its cells to those of k, and nothing to those of another object
-  row-of-object : (object c0 c1 c2 c3 c4 c5 k : ℕ) → readAt b at ≡ Found (Row object c0 c1 c2 c3 c4 c5) next
-      → Gathered (SaysRow k) (rs ++ Row object c0 c1 c2 c3 c4 c5 ∷ []) (rowsOf b (rows ++ at ∷ []) k)
+  row-of-object : (object c0 c1 c2 c3 c4 c5 k : ℕ) → readAt b at ≡ Found (OfBook (Row object c0 c1 c2 c3 c4 c5)) next
+      → Gathered (SaysRow k) (rs ++ OfBook (Row object c0 c1 c2 c3 c4 c5) ∷ []) (rowsOf b (rows ++ at ∷ []) k)
   unfolding rowOf cellsOf
   row-of-object object c0 c1 c2 c3 c4 c5 k e =
       subst (Gathered (SaysRow k) (rs ++ r ∷ []))
@@ -480,7 +479,7 @@ module _ {b : List ℕ} {rs : List Record} {rows : List ℕ} {at next : ℕ} (v 
       (⊎-elim same other (eq-or-ne object k))
     where
       r : Record
-      r = Row object c0 c1 c2 c3 c4 c5
+      r = OfBook (Row object c0 c1 c2 c3 c4 c5)
 
       cells : Tables.Row
       cells = c0 ∷ c1 ∷ c2 ∷ c3 ∷ c4 ∷ c5 ∷ []
@@ -498,7 +497,7 @@ module _ {b : List ℕ} {rs : List Record} {rows : List ℕ} {at next : ℕ} (v 
             c3 = c3;
             c4 = c4;
             c5 = c5;
-            isRow = ap (λ (x : ℕ). Row x c0 c1 c2 c3 c4 c5) q;
+            isRow = ap (λ (x : ℕ). OfBook (Row x c0 c1 c2 c3 c4 c5)) q;
             cells = refl;
           }) (v .ofObject k))
 
@@ -508,14 +507,15 @@ module _ {b : List ℕ} {rs : List Record} {rows : List ℕ} {at next : ℕ} (v 
           (subst (Gathered (SaysRow k) (rs ++ r ∷ [])) (sym (append-nil (rowsOf b rows k)))
           (gathered-same (SaysRow k) r (λ x w. let q = w .isRow in d (cc)) (v .ofObject k)))
 
-  row-said : (object c0 c1 c2 c3 c4 c5 : ℕ) → readAt b at ≡ Found (Row object c0 c1 c2 c3 c4 c5) next
-      → RowsSaid b (rs ++ Row object c0 c1 c2 c3 c4 c5 ∷ []) (rows ++ at ∷ []) next
+  row-said : (object c0 c1 c2 c3 c4 c5 : ℕ) → readAt b at ≡ Found (OfBook (Row object c0 c1 c2 c3 c4 c5)) next
+      → RowsSaid b (rs ++ OfBook (Row object c0 c1 c2 c3 c4 c5) ∷ []) (rows ++ at ∷ []) next
   unfolding kindOf
   row-said object c0 c1 c2 c3 c4 c5 e = record {
     read = reads-more (v .read) e;
     positions =
-        subst (λ (p : ℕ). RowsAt 0 (rs ++ Row object c0 c1 c2 c3 c4 c5 ∷ []) (rows ++ p ∷ [])) (zero-add _ ∙ sym here)
-        (rows-at-more (Row object c0 c1 c2 c3 c4 c5) refl (v .positions));
+        subst (λ (p : ℕ). RowsAt 0 (rs ++ OfBook (Row object c0 c1 c2 c3 c4 c5) ∷ []) (rows ++ p ∷ []))
+        (zero-add _ ∙ sym here)
+        (rows-at-more (OfBook (Row object c0 c1 c2 c3 c4 c5)) refl (v .positions));
     ofObject = λ k. row-of-object object c0 c1 c2 c3 c4 c5 k e;
   }
 
@@ -528,21 +528,12 @@ module _ {b : List ℕ} {rs : List Record} {rows : List ℕ} {at next : ℕ} (v 
 
   more-said : (r : Record) → readAt b at ≡ Found r next → RowsSaid b (rs ++ r ∷ []) (withRow rows r at) next
   unfolding withRow isRow kindOf
-  more-said (Attribute id kind) e = no-row-said (Attribute id kind) (λ z. omega arith) e
-  more-said (Object number set) e = no-row-said (Object number set) (λ z. omega arith) e
-  more-said (Dependency left right) e = no-row-said (Dependency left right) (λ z. omega arith) e
-  more-said (Row object c0 c1 c2 c3 c4 c5) e = row-said object c0 c1 c2 c3 c4 c5 e
-  more-said (Declared set) e = no-row-said (Declared set) (λ z. omega arith) e
-  more-said (Removed set) e = no-row-said (Removed set) (λ z. omega arith) e
-  more-said (Comparisons names lengths angles dates) e =
-      no-row-said (Comparisons names lengths angles dates) (λ z. omega arith) e
-  more-said OnlyDeclared e = no-row-said OnlyDeclared (λ z. omega arith) e
-  more-said (Item variable attribute) e = no-row-said (Item variable attribute) (λ z. omega arith) e
-  more-said (CompareTwo variable attribute operator variable2 attribute2) e =
-      no-row-said (CompareTwo variable attribute operator variable2 attribute2) (λ z. omega arith) e
-  more-said (CompareConstant variable attribute operator cell) e =
-      no-row-said (CompareConstant variable attribute operator cell) (λ z. omega arith) e
-  more-said End e = no-row-said End (λ z. omega arith) e
+  more-said r e = by (row-or-not r) e
+    where
+      by : {r : Record} → RowOrNot r → readAt b at ≡ Found r next → RowsSaid b (rs ++ r ∷ []) (withRow rows r at) next
+      by (aRow object c0 c1 c2 c3 c4 c5) e = row-said object c0 c1 c2 c3 c4 c5 e
+      by {r} (anotherKind n) e =
+          subst (λ (l : List ℕ). RowsSaid b (rs ++ r ∷ []) l next) (sym (no-row-added rows r at n)) (no-row-said r n e)
 
 pub accepted-rows-said : {b : List ℕ} {rs : List Record} {h : Held} {at : ℕ} → AcceptedAs b rs h at
     → RowsSaid b rs (h .rows) at
@@ -590,7 +581,7 @@ module _ (b : List ℕ) (at : ℕ) {next k : ℕ} {r : Record} {cells : Tables.R
   cell-at : (j n : ℕ) → at + 1 + j ≡ n → field 4 (drop (at + 1) b) j ≡ field 4 b n
   cell-at j n q = field-drop 4 b (at + 1) j ∙ ap (field 4 b) q
 
-  body-is : Row k (w .c0) (w .c1) (w .c2) (w .c3) (w .c4) (w .c5) ≡ recordOf 4 (drop (at + 1) b)
+  body-is : OfBook (Row k (w .c0) (w .c1) (w .c2) (w .c3) (w .c4) (w .c5)) ≡ recordOf 4 (drop (at + 1) b)
   body-is = sym (w .isRow) ∙ whole-readAt b at e .body ∙ ap (λ (n : ℕ). recordOf n (drop (at + 1) b)) kind-four
 
   pub row-in-bytes-is : BookRows.rowOf b at ≡ cells

@@ -16,26 +16,27 @@ use Rattle.sets.proofs.Tests.{no-or}
 use Rattle.sets.proofs.Bits.{in-out, member-lt}
 use Rattle.sets.proofs.Sets.{∪-left}
 use Rattle.values.specs.Values.{inRange}
+use Rattle.records.specs.Records.{kindOf}
 use Rattle.records.specs.Reader.{readAt}
 use Rattle.records.specs.Walking.{none, one}
 use Rattle.records.specs.declared.Record.{Record}
-use Rattle.records.specs.declared.Record.the-variants.{Attribute, Object, Dependency, Row, Declared, Removed}
-use Rattle.records.specs.declared.Record.the-variants.{Comparisons, OnlyDeclared, Item}
-use Rattle.records.specs.declared.Record.the-variants.{CompareTwo, CompareConstant, End}
+use Rattle.records.specs.declared.Record.the-variants.{OfBook, OfQuery}
+use Rattle.records.specs.declared.BookRecord.the-variants.{Attribute, Object, Dependency, Row, Declared, Removed}
+use Rattle.records.specs.declared.BookRecord.the-variants.{ComparisonTable, OnlyDeclared}
 use Rattle.records.specs.declared.Reading.the-variants.{Found}
+use Rattle.records.proofs.Records.{RowOrNot, aRow, anotherKind, row-or-not}
 use Rattle.relation.specs.Tables as Tables
 use Rattle.relation.specs.Tables.{Table, cellOf, family}
 use Rattle.scheme.specs.declared.Scheme.{Scheme}
 use Rattle.scheme.specs.Growing.{familyOf}
 use Rattle.book.specs.Faults.{someNonZero, someOutside, wrongCells, faultOf}
-use Rattle.book.specs.Declaring.{declare, withAttribute, withObject, withDependency, withDeclared}
-use Rattle.book.specs.Declaring.{withRemoved, withTable, withOnly}
+use Rattle.book.specs.Declaring.{declare, withAttribute, withObject, withDependency, withMaximal, withTable}
 use Rattle.book.specs.Reading.{Outcome, Held, isRow, withRow}
 use Rattle.book.specs.Accepting.{Accepted, AcceptedAs}
 use Rattle.book.specs.WellFormed.{WellFormed}
 use Rattle.book.specs.TablesOf.{cellsOf, rowOf, rowsOf, tablesOf, InRange}
 use Rattle.book.proofs.Declaring.{NewAttribute, NewObject, KnownRow, attribute-accepted, object-accepted}
-use Rattle.book.proofs.Declaring.{row-accepted}
+use Rattle.book.proofs.Declaring.{row-accepted, no-row-added}
 use Rattle.book.proofs.Conditions.{unneeded-zero, outside-no}
 use Rattle.book.proofs.WellFormed.{accepted-well-formed}
 
@@ -66,8 +67,8 @@ in-range {s} {object} c0 c1 c2 c3 c4 c5 v k =
     }
 
 row-at : {b : List ℕ} {s : Scheme} {at next object : ℕ} (c0 c1 c2 c3 c4 c5 : ℕ) → WellFormed s
-    → readAt b at ≡ Found (Row object c0 c1 c2 c3 c4 c5) next → faultOf s (Row object c0 c1 c2 c3 c4 c5) ≡ 0 → RowAt b
-    s at
+    → readAt b at ≡ Found (OfBook (Row object c0 c1 c2 c3 c4 c5)) next
+    → faultOf s (OfBook (Row object c0 c1 c2 c3 c4 c5)) ≡ 0 → RowAt b s at
 unfolding rowOf cellsOf
 row-at {s = s} {object = object} c0 c1 c2 c3 c4 c5 v e f =
     let k = row-accepted s object c0 c1 c2 c3 c4 c5 f in
@@ -115,24 +116,21 @@ module _ {b : List ℕ} {s : Scheme} {at : ℕ} (v : WellFormed s) (w : RowAt b 
   }
 
   after : (r : Record) → faultOf s r ≡ 0 → RowAt b (declare s r) at
-  unfolding declare withDependency withDeclared withRemoved withTable withOnly
-  after (Attribute id kind) f = after-attribute id kind (attribute-accepted s id kind f)
-  after (Object number set) f = after-object number set (object-accepted s number set f)
-  after (Dependency left right) f =
+  unfolding declare withDependency withMaximal withTable
+  after (OfBook (Attribute id kind)) f = after-attribute id kind (attribute-accepted s id kind f)
+  after (OfBook (Object number set)) f = after-object number set (object-accepted s number set f)
+  after (OfBook (Dependency left right)) f =
       record { object = w .object; cells = w .cells; reads = w .reads; declared = w .declared; ranged = w .ranged }
-  after (Row object c0 c1 c2 c3 c4 c5) f = w
-  after (Declared set) f =
+  after (OfBook (Row object c0 c1 c2 c3 c4 c5)) f = w
+  after (OfBook (Declared set)) f =
       record { object = w .object; cells = w .cells; reads = w .reads; declared = w .declared; ranged = w .ranged }
-  after (Removed set) f =
+  after (OfBook (Removed set)) f =
       record { object = w .object; cells = w .cells; reads = w .reads; declared = w .declared; ranged = w .ranged }
-  after (Comparisons names lengths angles dates) f =
+  after (OfBook (ComparisonTable names lengths angles dates)) f =
       record { object = w .object; cells = w .cells; reads = w .reads; declared = w .declared; ranged = w .ranged }
-  after OnlyDeclared f =
+  after (OfBook OnlyDeclared) f =
       record { object = w .object; cells = w .cells; reads = w .reads; declared = w .declared; ranged = w .ranged }
-  after (Item variable attribute) f = w
-  after (CompareTwo variable attribute operator variable2 attribute2) f = w
-  after (CompareConstant variable attribute operator cell) f = w
-  after End f = w
+  after (OfQuery r) f = w
 
 -- ---- accepted records
 
@@ -141,22 +139,16 @@ module _ {b : List ℕ} {s : Scheme} {rows : List ℕ} (at : ℕ) {next : ℕ} (
   -- the position of record r is among the rows if it is one
   with-row : (r : Record) → readAt b at ≡ Found r next → faultOf s r ≡ 0 → (p : ℕ) → List·Memᴰ p (withRow rows r at)
       → RowAt b s p
-  unfolding withRow isRow
-  with-row (Attribute id kind) e f p m = older p m
-  with-row (Object number set) e f p m = older p m
-  with-row (Dependency left right) e f p m = older p m
-  with-row (Row object c0 c1 c2 c3 c4 c5) e f p m =
-      ⊎-elim (λ m′. older p m′)
-      (λ m′. subst (RowAt b s) (sym (List·Memᴰ·eq-of-singleton m′)) (row-at c0 c1 c2 c3 c4 c5 v e f))
-      (List·Memᴰ·append-cases rows m)
-  with-row (Declared set) e f p m = older p m
-  with-row (Removed set) e f p m = older p m
-  with-row (Comparisons names lengths angles dates) e f p m = older p m
-  with-row OnlyDeclared e f p m = older p m
-  with-row (Item variable attribute) e f p m = older p m
-  with-row (CompareTwo variable attribute operator variable2 attribute2) e f p m = older p m
-  with-row (CompareConstant variable attribute operator cell) e f p m = older p m
-  with-row End e f p m = older p m
+  unfolding withRow isRow kindOf
+  with-row r e f p m = by (row-or-not r) e f m
+    where
+      by : {r : Record} → RowOrNot r → readAt b at ≡ Found r next → faultOf s r ≡ 0 → List·Memᴰ p (withRow rows r at)
+          → RowAt b s p
+      by (aRow object c0 c1 c2 c3 c4 c5) e f m =
+          ⊎-elim (λ m′. older p m′)
+          (λ m′. subst (RowAt b s) (sym (List·Memᴰ·eq-of-singleton m′)) (row-at c0 c1 c2 c3 c4 c5 v e f))
+          (List·Memᴰ·append-cases rows m)
+      by {r} (anotherKind n) e f m = older p (subst (List·Memᴰ p) (no-row-added rows r at n) m)
 
 accepted-rows-at : {b : List ℕ} {rs : List Record} {h : Held} {at : ℕ} → AcceptedAs b rs h at
     → (p : ℕ) → List·Memᴰ p (h .rows) → RowAt b (h .scheme) p

@@ -141,7 +141,8 @@ maximal-objects-read b =
       growing = grown-is-the-same-in-every-order (dependenciesOf s) (s .sets) (s .objects) o;
       computed = computed-is-the-list (dependenciesOf s) (s .sets) (s .objects) o;
       list =
-          maximal-objects-are-the-list (dependenciesOf s) (s .sets) (s .objects) o (s .only) (declaredOf s) (removedOf s);
+          maximal-objects-are-the-list (dependenciesOf s) (s .sets) (s .objects) o (s .maximal .only) (declaredOf s)
+          (removedOf s);
     }
 
 -- ---- the tables and maximal objects of a good book

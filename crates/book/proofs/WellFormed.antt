@@ -16,13 +16,15 @@ use Rattle.sets.specs.Sets.{bit, _∈_, _∉_, _⊆_, insert, single, rank, cou
 use Rattle.sets.proofs.Bits.{in-out, not-in, member-or-not}
 use Rattle.sets.proofs.Numbers.{eq-or-ne}
 use Rattle.sets.proofs.Sets.{∪-cases, ∪-left, in-single, insert-in, ⊆-∪-left, ⊆-trans, ∪-lt, single-lt, zero-out, ⊆-le}
+use Rattle.records.specs.Records.{masksOf}
 use Rattle.records.specs.Walking.{none, one}
 use Rattle.records.specs.declared.Record.{Record}
-use Rattle.records.specs.declared.Record.the-variants.{Attribute, Object, Dependency, Row, Declared, Removed}
-use Rattle.records.specs.declared.Record.the-variants.{Comparisons, OnlyDeclared, Item}
-use Rattle.records.specs.declared.Record.the-variants.{CompareTwo, CompareConstant, End}
+use Rattle.records.specs.declared.Record.the-variants.{OfBook, OfQuery}
+use Rattle.records.specs.declared.BookRecord.the-variants.{Attribute, Object, Dependency, Row, Declared, Removed}
+use Rattle.records.specs.declared.BookRecord.the-variants.{ComparisonTable, OnlyDeclared}
 use Rattle.values.proofs.Table.{built-in-keeps}
 use Rattle.scheme.specs.declared.Scheme.{Scheme}
+use Rattle.scheme.specs.declared.MaximalRecords.{MaximalRecords}
 use Rattle.scheme.specs.Dependencies as Dependencies
 use Rattle.scheme.specs.Growing.{familyOf}
 use Rattle.scheme.specs.OfScheme.{pairs, dependenciesOf, declaredOf, removedOf, maximalOf}
@@ -31,11 +33,11 @@ use Rattle.scheme.proofs.Theorems.{maximal-objects-are-the-list}
 use Rattle.reduction.specs.Statements.{OfAttributes}
 use Rattle.reduction.proofs.Places.{place-of}
 use Rattle.book.specs.Faults.{SixAtMost, faultOf}
-use Rattle.book.specs.Declaring.{nothingDeclared, withAttribute, withObject, withDependency, withDeclared}
-use Rattle.book.specs.Declaring.{withRemoved, withTable, withOnly, declare}
+use Rattle.book.specs.Declaring.{nothingDeclared, withAttribute, withObject, withDependency, withMaximal}
+use Rattle.book.specs.Declaring.{withTable, withDeclared, withRemoved, withOnly, withMasks, declare}
 use Rattle.book.specs.Reading.{Held}
 use Rattle.book.specs.Accepting.{AcceptedAs}
-use Rattle.book.specs.WellFormed.{SomeAttributes, ObjectSet, Arrays, WellFormed}
+use Rattle.book.specs.WellFormed.{SomeAttributes, ObjectSet, MaximalArrays, Arrays, WellFormed}
 use Rattle.book.proofs.Lists.{changed, getD-zeros}
 use Rattle.book.proofs.Declaring.{NewAttribute, NewObject, NewDependency, NewMaximal, attribute-accepted}
 use Rattle.book.proofs.Declaring.{object-accepted, dependency-accepted, declared-accepted, removed-accepted}
@@ -89,11 +91,8 @@ nothing-arrays = record {
   sets = refl;
   left = refl;
   right = refl;
-  declared = refl;
-  removed = refl;
   dependencies = omega arith;
-  declarations = omega arith;
-  removals = omega arith;
+  maximal = record { declared = refl; removed = refl; declarations = omega arith; removals = omega arith };
 }
 
 nothing-well-formed : WellFormed nothingDeclared
@@ -122,11 +121,8 @@ module _ {s : Scheme} (v : WellFormed s) where
       sets = v .arrays .sets;
       left = v .arrays .left;
       right = v .arrays .right;
-      declared = v .arrays .declared;
-      removed = v .arrays .removed;
       dependencies = v .arrays .dependencies;
-      declarations = v .arrays .declarations;
-      removals = v .arrays .removals;
+      maximal = v .arrays .maximal;
     };
     attributesBelow = insert-below (s .attributes) id (v .attributesBelow) (n .below);
     objectsBelow = v .objectsBelow;
@@ -183,11 +179,8 @@ module _ {s : Scheme} (v : WellFormed s) where
         sets = length-set (s .sets) number attributes ∙ v .arrays .sets;
         left = v .arrays .left;
         right = v .arrays .right;
-        declared = v .arrays .declared;
-        removed = v .arrays .removed;
         dependencies = v .arrays .dependencies;
-        declarations = v .arrays .declarations;
-        removals = v .arrays .removals;
+        maximal = v .arrays .maximal;
       };
       attributesBelow = v .attributesBelow;
       objectsBelow = insert-below (s .objects) number (v .objectsBelow) (n .below);
@@ -208,11 +201,8 @@ module _ {s : Scheme} (v : WellFormed s) where
       sets = v .arrays .sets;
       left = length-set (s .left) (s .dependencies) left ∙ v .arrays .left;
       right = length-set (s .right) (s .dependencies) right ∙ v .arrays .right;
-      declared = v .arrays .declared;
-      removed = v .arrays .removed;
       dependencies = add-one-le (n .room);
-      declarations = v .arrays .declarations;
-      removals = v .arrays .removals;
+      maximal = v .arrays .maximal;
     };
     attributesBelow = v .attributesBelow;
     objectsBelow = v .objectsBelow;
@@ -236,19 +226,20 @@ module _ {s : Scheme} (v : WellFormed s) where
   eight-more l n set′ e w h M m =
       one-more (take n l) set′ h (w .some) M (subst (List·Memᴰ M) (take-more l n set′ (omega (arith, w .room))) m)
 
-  declared-well-formed : (M : ℕ) → NewMaximal s (s .declarations) M → WellFormed (withDeclared s M)
-  unfolding withDeclared
-  declared-well-formed M n = record {
+  -- other records of maximal objects
+  maximal-well-formed : {m : MaximalRecords} → MaximalArrays m
+      → ((M : ℕ) → List·Memᴰ M (take (m .declarations) (m .declared)) → SomeObjects (s .objects) M)
+      → ((M : ℕ) → List·Memᴰ M (take (m .removals) (m .removed)) → SomeObjects (s .objects) M)
+      → WellFormed (withMaximal s m)
+  unfolding withMaximal
+  maximal-well-formed arrays declared removed = record {
     arrays = record {
       kinds = v .arrays .kinds;
       sets = v .arrays .sets;
       left = v .arrays .left;
       right = v .arrays .right;
-      declared = length-set (s .declared) (s .declarations) M ∙ v .arrays .declared;
-      removed = v .arrays .removed;
       dependencies = v .arrays .dependencies;
-      declarations = add-one-le (n .room);
-      removals = v .arrays .removals;
+      maximal = arrays;
     };
     attributesBelow = v .attributesBelow;
     objectsBelow = v .objectsBelow;
@@ -257,49 +248,61 @@ module _ {s : Scheme} (v : WellFormed s) where
     objectSets = v .objectSets;
     otherSets = v .otherSets;
     sides = v .sides;
-    declaredSets = eight-more (s .declared) (s .declarations) M (v .arrays .declared) n (v .declaredSets);
-    removedSets = v .removedSets;
+    declaredSets = declared;
+    removedSets = removed;
   }
 
-  removed-well-formed : (M : ℕ) → NewMaximal s (s .removals) M → WellFormed (withRemoved s M)
-  unfolding withRemoved
-  removed-well-formed M n = record {
-    arrays = record {
-      kinds = v .arrays .kinds;
-      sets = v .arrays .sets;
-      left = v .arrays .left;
-      right = v .arrays .right;
-      declared = v .arrays .declared;
-      removed = length-set (s .removed) (s .removals) M ∙ v .arrays .removed;
-      dependencies = v .arrays .dependencies;
-      declarations = v .arrays .declarations;
-      removals = add-one-le (n .room);
-    };
-    attributesBelow = v .attributesBelow;
-    objectsBelow = v .objectsBelow;
-    kindsBelow = v .kindsBelow;
-    rules = v .rules;
-    objectSets = v .objectSets;
-    otherSets = v .otherSets;
-    sides = v .sides;
-    declaredSets = v .declaredSets;
-    removedSets = eight-more (s .removed) (s .removals) M (v .arrays .removed) n (v .removedSets);
-  }
+  module _ (M : ℕ) where
+    declared-well-formed : NewMaximal s (s .maximal .declarations) M
+        → WellFormed (withMaximal s (withDeclared (s .maximal) M))
+    unfolding withDeclared
+    declared-well-formed n =
+        let m = v .arrays .maximal in
+        maximal-well-formed (record {
+          declared = length-set (s .maximal .declared) (s .maximal .declarations) M ∙ m .declared;
+          removed = m .removed;
+          declarations = add-one-le (n .room);
+          removals = m .removals;
+        })
+        (eight-more (s .maximal .declared) (s .maximal .declarations) M (m .declared) n (v .declaredSets))
+        (v .removedSets)
+
+    removed-well-formed : NewMaximal s (s .maximal .removals) M
+        → WellFormed (withMaximal s (withRemoved (s .maximal) M))
+    unfolding withRemoved
+    removed-well-formed n =
+        let m = v .arrays .maximal in
+        maximal-well-formed (record {
+          declared = m .declared;
+          removed = length-set (s .maximal .removed) (s .maximal .removals) M ∙ m .removed;
+          declarations = m .declarations;
+          removals = add-one-le (n .room);
+        })
+        (v .declaredSets)
+        (eight-more (s .maximal .removed) (s .maximal .removals) M (m .removed) n (v .removedSets))
+
+  only-well-formed : WellFormed (withMaximal s (withOnly (s .maximal)))
+  unfolding withOnly
+  only-well-formed =
+      let m = v .arrays .maximal in
+      maximal-well-formed (record {
+        declared = m .declared;
+        removed = m .removed;
+        declarations = m .declarations;
+        removals = m .removals;
+      }) (v .declaredSets) (v .removedSets)
 
   table-well-formed : (names lengths angles dates : ℕ) → NewTable s names lengths angles dates
-      → WellFormed (withTable s names lengths angles dates)
-  unfolding withTable
+      → WellFormed (withTable s (withMasks (s .table) (masksOf names lengths angles dates)))
+  unfolding withTable withMasks
   table-well-formed names lengths angles dates n = record {
     arrays = record {
       kinds = v .arrays .kinds;
       sets = v .arrays .sets;
       left = v .arrays .left;
       right = v .arrays .right;
-      declared = v .arrays .declared;
-      removed = v .arrays .removed;
       dependencies = v .arrays .dependencies;
-      declarations = v .arrays .declarations;
-      removals = v .arrays .removals;
+      maximal = v .arrays .maximal;
     };
     attributesBelow = v .attributesBelow;
     objectsBelow = v .objectsBelow;
@@ -312,49 +315,23 @@ module _ {s : Scheme} (v : WellFormed s) where
     removedSets = v .removedSets;
   }
 
-  only-well-formed : WellFormed (withOnly s)
-  unfolding withOnly
-  only-well-formed = record {
-    arrays = record {
-      kinds = v .arrays .kinds;
-      sets = v .arrays .sets;
-      left = v .arrays .left;
-      right = v .arrays .right;
-      declared = v .arrays .declared;
-      removed = v .arrays .removed;
-      dependencies = v .arrays .dependencies;
-      declarations = v .arrays .declarations;
-      removals = v .arrays .removals;
-    };
-    attributesBelow = v .attributesBelow;
-    objectsBelow = v .objectsBelow;
-    kindsBelow = v .kindsBelow;
-    rules = v .rules;
-    objectSets = v .objectSets;
-    otherSets = v .otherSets;
-    sides = v .sides;
-    declaredSets = v .declaredSets;
-    removedSets = v .removedSets;
-  }
-
 -- ---- accepted records
 
 declare-well-formed : (s : Scheme) (r : Record) → WellFormed s → faultOf s r ≡ 0 → WellFormed (declare s r)
 unfolding declare
-declare-well-formed s (Attribute id kind) v f = attribute-well-formed v id kind (attribute-accepted s id kind f)
-declare-well-formed s (Object number set) v f = object-well-formed v number set (object-accepted s number set f)
-declare-well-formed s (Dependency left right) v f =
+declare-well-formed s (OfBook (Attribute id kind)) v f =
+    attribute-well-formed v id kind (attribute-accepted s id kind f)
+declare-well-formed s (OfBook (Object number set)) v f =
+    object-well-formed v number set (object-accepted s number set f)
+declare-well-formed s (OfBook (Dependency left right)) v f =
     dependency-well-formed v left right (dependency-accepted s left right f)
-declare-well-formed s (Row object c0 c1 c2 c3 c4 c5) v f = v
-declare-well-formed s (Declared set) v f = declared-well-formed v set (declared-accepted s set f)
-declare-well-formed s (Removed set) v f = removed-well-formed v set (removed-accepted s set f)
-declare-well-formed s (Comparisons names lengths angles dates) v f =
+declare-well-formed s (OfBook (Row object c0 c1 c2 c3 c4 c5)) v f = v
+declare-well-formed s (OfBook (Declared set)) v f = declared-well-formed v set (declared-accepted s set f)
+declare-well-formed s (OfBook (Removed set)) v f = removed-well-formed v set (removed-accepted s set f)
+declare-well-formed s (OfBook (ComparisonTable names lengths angles dates)) v f =
     table-well-formed v names lengths angles dates (table-accepted s names lengths angles dates f)
-declare-well-formed s OnlyDeclared v f = only-well-formed v
-declare-well-formed s (Item variable attribute) v f = v
-declare-well-formed s (CompareTwo variable attribute operator variable2 attribute2) v f = v
-declare-well-formed s (CompareConstant variable attribute operator cell) v f = v
-declare-well-formed s End v f = v
+declare-well-formed s (OfBook OnlyDeclared) v f = only-well-formed v
+declare-well-formed s (OfQuery r) v f = v
 
 pub accepted-well-formed : {b : List ℕ} {rs : List Record} {h : Held} {at : ℕ} → AcceptedAs b rs h at
     → WellFormed (h .scheme)
@@ -403,5 +380,6 @@ module _ {s : Scheme} (v : WellFormed s) where
   pub maximal-some : (M : ℕ) → List·Memᴰ M (maximalOf s) → SomeObjects (s .objects) M
   unfolding maximalOf
   maximal-some M m =
-      maximal-objects-are-the-list (dependenciesOf s) (s .sets) (s .objects) scheme-bounded (s .only) (declaredOf s)
+      maximal-objects-are-the-list (dependenciesOf s) (s .sets) (s .objects) scheme-bounded (s .maximal .only)
+      (declaredOf s)
       (removedOf s) .someObjects (v .declaredSets) M m

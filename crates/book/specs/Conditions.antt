@@ -14,9 +14,9 @@ use Rattle.records.specs.Checks.{Condition, _gives_}
 use Rattle.values.specs.Table.{Rules}
 use Rattle.records.specs.Records.{masksOf}
 use Rattle.records.specs.declared.Record.{Record}
-use Rattle.records.specs.declared.Record.the-variants.{Attribute, Object, Dependency, Row, Declared, Removed}
-use Rattle.records.specs.declared.Record.the-variants.{Comparisons, OnlyDeclared, Item}
-use Rattle.records.specs.declared.Record.the-variants.{CompareTwo, CompareConstant, End}
+use Rattle.records.specs.declared.Record.the-variants.{OfBook, OfQuery}
+use Rattle.records.specs.declared.BookRecord.the-variants.{Attribute, Object, Dependency, Row, Declared, Removed}
+use Rattle.records.specs.declared.BookRecord.the-variants.{ComparisonTable, OnlyDeclared}
 use Rattle.relation.specs.Tables.{cellOf}
 use Rattle.scheme.specs.declared.Scheme.{Scheme}
 
@@ -58,29 +58,27 @@ maximalConditions s n set =
 -- "kind not allowed 2; .. one more than its bound 4; field outside its range, or an empty set, or an object of over six
 -- attributes 5; attribute or object already declared 6; attribute or object not declared 7."
 unfoldable pub conditions : Scheme → Record → List Condition
-conditions s (Attribute id kind) =
+conditions s (OfBook (Attribute id kind)) =
     ((31 < id) ⊎ (3 < kind) gives 5)
     ∷ (id ∈ s .attributes gives 6)
     ∷ []
-conditions s (Object number set) =
+conditions s (OfBook (Object number set)) =
     ((31 < number) ⊎ (set ≡ 0) ⊎ (6 < count 32 set) gives 5)
     ∷ (number ∈ s .objects gives 6)
     ∷ ((set ⊆ s .attributes → ⊥) gives 7)
     ∷ []
-conditions s (Dependency left right) =
+conditions s (OfBook (Dependency left right)) =
     (64 ≤ s .dependencies gives 4)
     ∷ ((left ≡ 0) ⊎ (right ≡ 0) gives 5)
     ∷ ((left ⊆ s .attributes → ⊥) ⊎ (right ⊆ s .attributes → ⊥) gives 7)
     ∷ []
-conditions s (Row object c0 c1 c2 c3 c4 c5) = rowConditions s object (c0 ∷ c1 ∷ c2 ∷ c3 ∷ c4 ∷ c5 ∷ [])
-conditions s (Declared set) = maximalConditions s (s .declarations) set
-conditions s (Removed set) = maximalConditions s (s .removals) set
-conditions s (Comparisons names lengths angles dates) =
-    (1 ≤ s .tables gives 4)
+conditions s (OfBook (Row object c0 c1 c2 c3 c4 c5)) = rowConditions s object (c0 ∷ c1 ∷ c2 ∷ c3 ∷ c4 ∷ c5 ∷ [])
+conditions s (OfBook (Declared set)) = maximalConditions s (s .maximal .declarations) set
+conditions s (OfBook (Removed set)) = maximalConditions s (s .maximal .removals) set
+conditions s (OfBook (ComparisonTable names lengths angles dates)) =
+    (1 ≤ s .table .given gives 4)
     ∷ ((Rules (masksOf names lengths angles dates) → ⊥) gives 20)
     ∷ []
-conditions s OnlyDeclared = []
-conditions s (Item variable attribute) = (Unit {0} gives 2) ∷ []
-conditions s (CompareTwo variable attribute operator variable2 attribute2) = (Unit {0} gives 2) ∷ []
-conditions s (CompareConstant variable attribute operator cell) = (Unit {0} gives 2) ∷ []
-conditions s End = (Unit {0} gives 2) ∷ []
+conditions s (OfBook OnlyDeclared) = []
+-- a kind of a query
+conditions s (OfQuery r) = (Unit {0} gives 2) ∷ []

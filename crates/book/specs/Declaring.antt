@@ -1,19 +1,31 @@
 -- What a record without a fault adds to a scheme: "A record uses only what stands before it."
--- In order: the scheme that nothing was declared in, what each kind adds.
+-- In order: the scheme that nothing was declared in, one part of a scheme changed, what each kind adds.
 -- Assumes nothing.
 use mathlib.Core.Bool.{true, false}
+use mathlib.Core.List.{List}
 use Prim.Native.Nat.{ℕ, _+_}
 use lib.ListN.{set, replicate}
 use Rattle.sets.specs.Sets.{insert}
 use Rattle.values.specs.Table.{builtIn}
 use Rattle.records.specs.Records.{masksOf}
 use Rattle.records.specs.declared.Record.{Record}
-use Rattle.records.specs.declared.Record.the-variants.{Attribute, Object, Dependency, Row, Declared, Removed}
-use Rattle.records.specs.declared.Record.the-variants.{Comparisons, OnlyDeclared, Item}
-use Rattle.records.specs.declared.Record.the-variants.{CompareTwo, CompareConstant, End}
+use Rattle.records.specs.declared.Record.the-variants.{OfBook, OfQuery}
+use Rattle.records.specs.declared.BookRecord.the-variants.{Attribute, Object, Dependency, Row, Declared, Removed}
+use Rattle.records.specs.declared.BookRecord.the-variants.{ComparisonTable, OnlyDeclared}
 use Rattle.scheme.specs.declared.Scheme.{Scheme}
+use Rattle.scheme.specs.declared.MaximalRecords.{MaximalRecords}
+use Rattle.scheme.specs.declared.TableOfMasks.{TableOfMasks}
 
 -- nothing is declared
+abbrev pub nothingOfMaximal : MaximalRecords
+nothingOfMaximal = record {
+  declared = replicate 8 0;
+  declarations = 0;
+  removed = replicate 8 0;
+  removals = 0;
+  only = false;
+}
+
 unfoldable pub nothingDeclared : Scheme
 nothingDeclared = record {
   kinds = replicate 32 0;
@@ -23,13 +35,8 @@ nothingDeclared = record {
   left = replicate 64 0;
   right = replicate 64 0;
   dependencies = 0;
-  declared = replicate 8 0;
-  declarations = 0;
-  removed = replicate 8 0;
-  removals = 0;
-  only = false;
-  table = builtIn;
-  tables = 0;
+  maximal = nothingOfMaximal;
+  table = record { masks = builtIn; given = 0 };
 }
 
 -- "attribute, id 0..31", with its value kind
@@ -42,13 +49,8 @@ withAttribute s id kind = record {
   left = s .left;
   right = s .right;
   dependencies = s .dependencies;
-  declared = s .declared;
-  declarations = s .declarations;
-  removed = s .removed;
-  removals = s .removals;
-  only = s .only;
+  maximal = s .maximal;
   table = s .table;
-  tables = s .tables;
 }
 
 -- "object 0..31 and its attributes"
@@ -61,13 +63,8 @@ withObject s number attributes = record {
   left = s .left;
   right = s .right;
   dependencies = s .dependencies;
-  declared = s .declared;
-  declarations = s .declarations;
-  removed = s .removed;
-  removals = s .removals;
-  only = s .only;
+  maximal = s .maximal;
   table = s .table;
-  tables = s .tables;
 }
 
 -- "dependency: left determines right", behind those before it
@@ -80,102 +77,80 @@ withDependency s left right = record {
   left = set (s .left) (s .dependencies) left;
   right = set (s .right) (s .dependencies) right;
   dependencies = s .dependencies + 1;
-  declared = s .declared;
-  declarations = s .declarations;
-  removed = s .removed;
-  removals = s .removals;
-  only = s .only;
+  maximal = s .maximal;
   table = s .table;
-  tables = s .tables;
+}
+
+-- other records of maximal objects, and another comparison table
+unfoldable pub withMaximal : Scheme → MaximalRecords → Scheme
+withMaximal s maximal = record {
+  kinds = s .kinds;
+  attributes = s .attributes;
+  sets = s .sets;
+  objects = s .objects;
+  left = s .left;
+  right = s .right;
+  dependencies = s .dependencies;
+  maximal = maximal;
+  table = s .table;
+}
+
+unfoldable pub withTable : Scheme → TableOfMasks → Scheme
+withTable s table = record {
+  kinds = s .kinds;
+  attributes = s .attributes;
+  sets = s .sets;
+  objects = s .objects;
+  left = s .left;
+  right = s .right;
+  dependencies = s .dependencies;
+  maximal = s .maximal;
+  table = table;
 }
 
 -- "declared maximal object", behind those before it
-unfoldable pub withDeclared : Scheme → ℕ → Scheme
-withDeclared s M = record {
-  kinds = s .kinds;
-  attributes = s .attributes;
-  sets = s .sets;
-  objects = s .objects;
-  left = s .left;
-  right = s .right;
-  dependencies = s .dependencies;
-  declared = set (s .declared) (s .declarations) M;
-  declarations = s .declarations + 1;
-  removed = s .removed;
-  removals = s .removals;
-  only = s .only;
-  table = s .table;
-  tables = s .tables;
+unfoldable pub withDeclared : MaximalRecords → ℕ → MaximalRecords
+withDeclared m M = record {
+  declared = set (m .declared) (m .declarations) M;
+  declarations = m .declarations + 1;
+  removed = m .removed;
+  removals = m .removals;
+  only = m .only;
 }
 
 -- "computed maximal object to be removed", behind those before it
-unfoldable pub withRemoved : Scheme → ℕ → Scheme
-withRemoved s M = record {
-  kinds = s .kinds;
-  attributes = s .attributes;
-  sets = s .sets;
-  objects = s .objects;
-  left = s .left;
-  right = s .right;
-  dependencies = s .dependencies;
-  declared = s .declared;
-  declarations = s .declarations;
-  removed = set (s .removed) (s .removals) M;
-  removals = s .removals + 1;
-  only = s .only;
-  table = s .table;
-  tables = s .tables;
-}
-
--- "Book kind 13 .. replacing the built-in table for that book"
-unfoldable pub withTable : Scheme → ℕ → ℕ → ℕ → ℕ → Scheme
-withTable s names lengths angles dates = record {
-  kinds = s .kinds;
-  attributes = s .attributes;
-  sets = s .sets;
-  objects = s .objects;
-  left = s .left;
-  right = s .right;
-  dependencies = s .dependencies;
-  declared = s .declared;
-  declarations = s .declarations;
-  removed = s .removed;
-  removals = s .removals;
-  only = s .only;
-  table = masksOf names lengths angles dates;
-  tables = s .tables + 1;
+unfoldable pub withRemoved : MaximalRecords → ℕ → MaximalRecords
+withRemoved m M = record {
+  declared = m .declared;
+  declarations = m .declarations;
+  removed = set (m .removed) (m .removals) M;
+  removals = m .removals + 1;
+  only = m .only;
 }
 
 -- "only declared maximal objects count"
-unfoldable pub withOnly : Scheme → Scheme
-withOnly s = record {
-  kinds = s .kinds;
-  attributes = s .attributes;
-  sets = s .sets;
-  objects = s .objects;
-  left = s .left;
-  right = s .right;
-  dependencies = s .dependencies;
-  declared = s .declared;
-  declarations = s .declarations;
-  removed = s .removed;
-  removals = s .removals;
+unfoldable pub withOnly : MaximalRecords → MaximalRecords
+withOnly m = record {
+  declared = m .declared;
+  declarations = m .declarations;
+  removed = m .removed;
+  removals = m .removals;
   only = true;
-  table = s .table;
-  tables = s .tables;
 }
+
+-- "Book kind 13 .. replacing the built-in table for that book"
+unfoldable pub withMasks : TableOfMasks → List ℕ → TableOfMasks
+withMasks t masks = record { masks = masks; given = t .given + 1 }
 
 -- what a record adds; a row adds nothing to the scheme, and the kinds of a query stand in no book
 unfoldable pub declare : Scheme → Record → Scheme
-declare s (Attribute id kind) = withAttribute s id kind
-declare s (Object number attributes) = withObject s number attributes
-declare s (Dependency left right) = withDependency s left right
-declare s (Row object c0 c1 c2 c3 c4 c5) = s
-declare s (Declared M) = withDeclared s M
-declare s (Removed M) = withRemoved s M
-declare s (Comparisons names lengths angles dates) = withTable s names lengths angles dates
-declare s OnlyDeclared = withOnly s
-declare s (Item variable attribute) = s
-declare s (CompareTwo variable attribute operator variable2 attribute2) = s
-declare s (CompareConstant variable attribute operator cell) = s
-declare s End = s
+declare s (OfBook (Attribute id kind)) = withAttribute s id kind
+declare s (OfBook (Object number attributes)) = withObject s number attributes
+declare s (OfBook (Dependency left right)) = withDependency s left right
+declare s (OfBook (Row object c0 c1 c2 c3 c4 c5)) = s
+declare s (OfBook (Declared M)) = withMaximal s (withDeclared (s .maximal) M)
+declare s (OfBook (Removed M)) = withMaximal s (withRemoved (s .maximal) M)
+declare s (OfBook (ComparisonTable names lengths angles dates)) =
+    withTable s (withMasks (s .table) (masksOf names lengths angles dates))
+declare s (OfBook OnlyDeclared) = withMaximal s (withOnly (s .maximal))
+declare s (OfQuery r) = s

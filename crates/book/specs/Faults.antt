@@ -13,9 +13,9 @@ use Rattle.records.specs.Checks.{firstOf}
 use Rattle.values.specs.Table.{keepsRules}
 use Rattle.records.specs.Records.{masksOf}
 use Rattle.records.specs.declared.Record.{Record}
-use Rattle.records.specs.declared.Record.the-variants.{Attribute, Object, Dependency, Row, Declared, Removed}
-use Rattle.records.specs.declared.Record.the-variants.{Comparisons, OnlyDeclared, Item}
-use Rattle.records.specs.declared.Record.the-variants.{CompareTwo, CompareConstant, End}
+use Rattle.records.specs.declared.Record.the-variants.{OfBook, OfQuery}
+use Rattle.records.specs.declared.BookRecord.the-variants.{Attribute, Object, Dependency, Row, Declared, Removed}
+use Rattle.records.specs.declared.BookRecord.the-variants.{ComparisonTable, OnlyDeclared}
 use Rattle.relation.specs.Tables.{cellOf}
 use Rattle.scheme.specs.declared.Scheme.{Scheme}
 
@@ -61,34 +61,32 @@ maximalChecks s n set =
 -- "kind not allowed 2; .. one more than its bound 4; field outside its range, or an empty set, or an object of over six
 -- attributes 5; attribute or object already declared 6; attribute or object not declared 7."
 unfoldable pub checks : Scheme → Record → List (Bool × ℕ)
-checks s (Attribute id kind) =
+checks s (OfBook (Attribute id kind)) =
     (ltb 31 id || ltb 3 kind, 5)
     ∷ (has (s .attributes) id, 6)
     ∷ []
-checks s (Object number set) =
+checks s (OfBook (Object number set)) =
     (ltb 31 number || isEmpty set || ltb 6 (count 32 set), 5)
     ∷ (has (s .objects) number, 6)
     ∷ (not (within set (s .attributes)), 7)
     ∷ []
-checks s (Dependency left right) =
+checks s (OfBook (Dependency left right)) =
     (leb 64 (s .dependencies), 4)
     ∷ (isEmpty left || isEmpty right, 5)
     ∷ (not (within left (s .attributes)) || not (within right (s .attributes)), 7)
     ∷ []
-checks s (Row object c0 c1 c2 c3 c4 c5) = rowChecks s object (c0 ∷ c1 ∷ c2 ∷ c3 ∷ c4 ∷ c5 ∷ [])
-checks s (Declared set) = maximalChecks s (s .declarations) set
-checks s (Removed set) = maximalChecks s (s .removals) set
+checks s (OfBook (Row object c0 c1 c2 c3 c4 c5)) = rowChecks s object (c0 ∷ c1 ∷ c2 ∷ c3 ∷ c4 ∷ c5 ∷ [])
+checks s (OfBook (Declared set)) = maximalChecks s (s .maximal .declarations) set
+checks s (OfBook (Removed set)) = maximalChecks s (s .maximal .removals) set
 -- "Book kind 13, at most one (else 4)"; "20 a table that breaks this, after 4 for that record."
-checks s (Comparisons names lengths angles dates) =
-    (leb 1 (s .tables), 4)
+checks s (OfBook (ComparisonTable names lengths angles dates)) =
+    (leb 1 (s .table .given), 4)
     ∷ (not (keepsRules (masksOf names lengths angles dates)), 20)
     ∷ []
 -- "Book kind 14, no body .. any number of them is one"
-checks s OnlyDeclared = []
-checks s (Item variable attribute) = (true, 2) ∷ []
-checks s (CompareTwo variable attribute operator variable2 attribute2) = (true, 2) ∷ []
-checks s (CompareConstant variable attribute operator cell) = (true, 2) ∷ []
-checks s End = (true, 2) ∷ []
+checks s (OfBook OnlyDeclared) = []
+-- a kind of a query
+checks s (OfQuery r) = (true, 2) ∷ []
 
 -- the fault of a record, 0 where it has none
 unfoldable pub faultOf : Scheme → Record → ℕ

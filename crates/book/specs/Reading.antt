@@ -7,12 +7,9 @@ use mathlib.Core.List.{List, [], _∷_, _++_}
 use Prim.Native.Nat.{ℕ}
 use lib.Dec.{eqb, ltb}
 use lib.ListN.{length, take, drop}
-use Rattle.records.specs.Records.{ofBook}
+use Rattle.records.specs.Records.{ofBook, kindOf}
 use Rattle.records.specs.Walking.{Rules, Stop, shortNumber, walk}
 use Rattle.records.specs.declared.Record.{Record}
-use Rattle.records.specs.declared.Record.the-variants.{Attribute, Object, Dependency, Row, Declared, Removed}
-use Rattle.records.specs.declared.Record.the-variants.{Comparisons, OnlyDeclared, Item}
-use Rattle.records.specs.declared.Record.the-variants.{CompareTwo, CompareConstant, End}
 use Rattle.records.specs.declared.Reading.{Reading}
 use Rattle.records.specs.declared.Reading.the-variants.{Nothing, Unknown, Short, Found}
 use Rattle.scheme.specs.declared.Scheme.{Scheme}
@@ -31,19 +28,9 @@ pub record Outcome : Type 0 where
 
 -- ---- rows
 
+-- "row of a table", kind 4
 unfoldable pub isRow : Record → Bool
-isRow (Attribute id kind) = false
-isRow (Object number set) = false
-isRow (Dependency left right) = false
-isRow (Row object c0 c1 c2 c3 c4 c5) = true
-isRow (Declared set) = false
-isRow (Removed set) = false
-isRow (Comparisons names lengths angles dates) = false
-isRow OnlyDeclared = false
-isRow (Item variable attribute) = false
-isRow (CompareTwo variable attribute operator variable2 attribute2) = false
-isRow (CompareConstant variable attribute operator cell) = false
-isRow End = false
+isRow r = eqb (kindOf r) 4
 
 -- the positions of the rows so far, with that of record r at position at if it is a row
 unfoldable pub withRow : List ℕ → Record → ℕ → List ℕ

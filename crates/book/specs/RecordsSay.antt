@@ -7,34 +7,38 @@ use mathlib.Core.Bool.{true}
 use mathlib.Core.Logic.{_↔_}
 use mathlib.Core.List.{List, [], _∷_, List·Memᴰ}
 use Prim.Native.Nat.{ℕ, _+_, _≤_}
-use lib.ListN.{length, getD}
+use lib.ListN.{length, getD, take}
 use Rattle.sets.specs.Sets.{_∈_, _∉_}
 use Rattle.records.specs.Gathered.{Gathered}
 use Rattle.records.specs.Records.{kindOf, bytesOf, masksOf}
 use Rattle.records.specs.Reader.{Reads}
 use Rattle.values.specs.Table.{builtIn}
 use Rattle.records.specs.declared.Record.{Record}
-use Rattle.records.specs.declared.Record.the-variants.{Attribute, Object, Dependency, Row, Declared, Removed}
-use Rattle.records.specs.declared.Record.the-variants.{Comparisons, OnlyDeclared}
+use Rattle.records.specs.declared.BookRecord.{BookRecord}
+use Rattle.records.specs.declared.Record.the-variants.{OfBook}
+use Rattle.records.specs.declared.BookRecord.the-variants.{Attribute, Object, Dependency, Row, Declared, Removed}
+use Rattle.records.specs.declared.BookRecord.the-variants.{ComparisonTable, OnlyDeclared}
 use Rattle.relation.specs.Tables as Tables
 use Rattle.scheme.specs.declared.Scheme.{Scheme}
+use Rattle.scheme.specs.declared.MaximalRecords.{MaximalRecords}
+use Rattle.scheme.specs.declared.TableOfMasks.{TableOfMasks}
 use Rattle.scheme.specs.Dependencies as Dependencies
-use Rattle.scheme.specs.OfScheme.{dependenciesOf, declaredOf, removedOf}
+use Rattle.scheme.specs.OfScheme.{dependenciesOf}
 use Rattle.book.specs.TablesOf.{rowsOf}
 
 -- ---- the fields of one kind in order
 
 -- "dependency: left determines right"
 abbrev pub SaysDependency : Record → Dependencies.Dependency → Type 0
-SaysDependency r d = r ≡ Dependency (d .left) (d .right)
+SaysDependency r d = r ≡ OfBook (Dependency (d .left) (d .right))
 
 -- "declared maximal object"
 abbrev pub SaysDeclared : Record → ℕ → Type 0
-SaysDeclared r M = r ≡ Declared M
+SaysDeclared r M = r ≡ OfBook (Declared M)
 
 -- "computed maximal object to be removed"
 abbrev pub SaysRemoved : Record → ℕ → Type 0
-SaysRemoved r M = r ≡ Removed M
+SaysRemoved r M = r ≡ OfBook (Removed M)
 
 -- a row of object k: "object, six cells"
 pub record SaysRow (k : ℕ) (r : Record) (row : Tables.Row) : Type 0 where
@@ -44,14 +48,14 @@ pub record SaysRow (k : ℕ) (r : Record) (row : Tables.Row) : Type 0 where
   pub c3 : ℕ
   pub c4 : ℕ
   pub c5 : ℕ
-  pub isRow : r ≡ Row k c0 c1 c2 c3 c4 c5
+  pub isRow : r ≡ OfBook (Row k c0 c1 c2 c3 c4 c5)
   pub cells : row ≡ c0 ∷ c1 ∷ c2 ∷ c3 ∷ c4 ∷ c5 ∷ []
 
 -- ---- the fields of one kind by number
 
 -- number i is declared, with the field v at its place, exactly if a record says so; the other places hold 0
-pub record ByNumber (says : ℕ → ℕ → Record) (rs : List Record) (numbers : ℕ) (fields : List ℕ) : Type 0 where
-  pub exactly : (i v : ℕ) → List·Memᴰ (says i v) rs ↔ ((i ∈ numbers) × (getD fields i 0 ≡ v))
+pub record ByNumber (says : ℕ → ℕ → BookRecord) (rs : List Record) (numbers : ℕ) (fields : List ℕ) : Type 0 where
+  pub exactly : (i v : ℕ) → List·Memᴰ (OfBook (says i v)) rs ↔ ((i ∈ numbers) × (getD fields i 0 ≡ v))
   pub nothingElse : (i : ℕ) → i ∉ numbers → getD fields i 0 ≡ 0
 
 -- ---- the scheme
@@ -60,25 +64,30 @@ pub record ByNumber (says : ℕ → ℕ → Record) (rs : List Record) (numbers 
 abbrev pub ZeroFrom : ℕ → List ℕ → Type 0
 ZeroFrom n l = (i : ℕ) → n ≤ i → getD l i 0 ≡ 0
 
+-- maximal objects: what kinds 5, 6 and 14 say
+pub record MaximalSaid (rs : List Record) (m : MaximalRecords) : Type 0 where
+  pub declared : Gathered SaysDeclared rs (take (m .declarations) (m .declared))
+  pub removed : Gathered SaysRemoved rs (take (m .removals) (m .removed))
+  pub only : (m .only ≡ true) ↔ List·Memᴰ (OfBook OnlyDeclared) rs
+  pub declaredBehind : ZeroFrom (m .declarations) (m .declared)
+  pub removedBehind : ZeroFrom (m .removals) (m .removed)
+
 -- the comparison table: "Book kind 13, at most one .., replacing the built-in table for that book"
-pub data ComparisonsSaid (rs : List Record) (s : Scheme) : Type 0 where
-  builtInOne : ((names lengths angles dates : ℕ) → List·Memᴰ (Comparisons names lengths angles dates) rs → ⊥)
-      → s .tables ≡ 0 → s .table ≡ builtIn → ComparisonsSaid rs s
-  ownOne : (names lengths angles dates : ℕ) → List·Memᴰ (Comparisons names lengths angles dates) rs
-      → s .tables ≡ 1 → s .table ≡ masksOf names lengths angles dates → ComparisonsSaid rs s
+pub data ComparisonsSaid (rs : List Record) (t : TableOfMasks) : Type 0 where
+  builtInOne : ((names lengths angles dates : ℕ)
+      → List·Memᴰ (OfBook (ComparisonTable names lengths angles dates)) rs → ⊥)
+      → t .given ≡ 0 → t .masks ≡ builtIn → ComparisonsSaid rs t
+  ownOne : (names lengths angles dates : ℕ) → List·Memᴰ (OfBook (ComparisonTable names lengths angles dates)) rs
+      → t .given ≡ 1 → t .masks ≡ masksOf names lengths angles dates → ComparisonsSaid rs t
 
 pub record SchemeSaid (rs : List Record) (s : Scheme) : Type 0 where
   pub attributes : ByNumber Attribute rs (s .attributes) (s .kinds)
   pub objects : ByNumber Object rs (s .objects) (s .sets)
   pub dependencies : Gathered SaysDependency rs (dependenciesOf s)
-  pub declared : Gathered SaysDeclared rs (declaredOf s)
-  pub removed : Gathered SaysRemoved rs (removedOf s)
-  pub only : (s .only ≡ true) ↔ List·Memᴰ OnlyDeclared rs
-  pub comparisons : ComparisonsSaid rs s
   pub leftBehind : ZeroFrom (s .dependencies) (s .left)
   pub rightBehind : ZeroFrom (s .dependencies) (s .right)
-  pub declaredBehind : ZeroFrom (s .declarations) (s .declared)
-  pub removedBehind : ZeroFrom (s .removals) (s .removed)
+  pub maximal : MaximalSaid rs (s .maximal)
+  pub comparisons : ComparisonsSaid rs (s .table)
 
 -- ---- the rows
 

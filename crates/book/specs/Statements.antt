@@ -108,7 +108,7 @@ pub record OnlyACycle (permits : ℕ → Form) (b : List ℕ) : Type 0 where
   pub at : ℕ
   pub accepted : Accepted b passed scheme rows at
   pub ended : length b ≤ at
-  pub notBoth : (scheme .only ≡ true) × (1 ≤ scheme .removals) → ⊥
+  pub notBoth : (scheme .maximal .only ≡ true) × (1 ≤ scheme .maximal .removals) → ⊥
   pub cycle : CycleLeft permits scheme
 
 -- "a remaining maximal object with a cycle 9": exactly there, by the steps of either form
@@ -148,7 +148,7 @@ pub record MaximalObjectsRead (b : List ℕ) : Type 0 where
       → GrownInEveryOrder (dependenciesOf (read b .scheme)) (read b .scheme .sets) (read b .scheme .objects) start
   pub computed : ComputedList (dependenciesOf (read b .scheme)) (read b .scheme .sets) (read b .scheme .objects)
   pub list : MaximalObjectList (dependenciesOf (read b .scheme)) (read b .scheme .sets) (read b .scheme .objects)
-      (read b .scheme .only) (declaredOf (read b .scheme)) (removedOf (read b .scheme))
+      (read b .scheme .maximal .only) (declaredOf (read b .scheme)) (removedOf (read b .scheme))
 
 -- ---- the tables and maximal objects of a good book
 

@@ -11,9 +11,9 @@ use Rattle.sets.specs.Sets.{_∈_, count, members}
 use Rattle.values.specs.Values.{inRange}
 use Rattle.records.specs.Reader.{readAt}
 use Rattle.records.specs.declared.Record.{Record}
-use Rattle.records.specs.declared.Record.the-variants.{Attribute, Object, Dependency, Row, Declared, Removed}
-use Rattle.records.specs.declared.Record.the-variants.{Comparisons, OnlyDeclared, Item}
-use Rattle.records.specs.declared.Record.the-variants.{CompareTwo, CompareConstant, End}
+use Rattle.records.specs.declared.Record.the-variants.{OfBook, OfQuery}
+use Rattle.records.specs.declared.BookRecord.the-variants.{Attribute, Object, Dependency, Row, Declared, Removed}
+use Rattle.records.specs.declared.BookRecord.the-variants.{ComparisonTable, OnlyDeclared}
 use Rattle.records.specs.declared.Reading.{Reading}
 use Rattle.records.specs.declared.Reading.the-variants.{Nothing, Unknown, Short, Found}
 use Rattle.relation.specs.Tables as Tables
@@ -24,19 +24,16 @@ use Rattle.book.specs.Reading.{Outcome}
 
 -- the six cells of a record that is a row of object k
 unfoldable pub cellsOf : ℕ → Record → List Tables.Row
-cellsOf k (Attribute id kind) = []
-cellsOf k (Object number set) = []
-cellsOf k (Dependency left right) = []
-cellsOf k (Row object c0 c1 c2 c3 c4 c5) =
+cellsOf k (OfBook (Attribute id kind)) = []
+cellsOf k (OfBook (Object number set)) = []
+cellsOf k (OfBook (Dependency left right)) = []
+cellsOf k (OfBook (Row object c0 c1 c2 c3 c4 c5)) =
     elim (eqb object k) [ true ↦ (c0 ∷ c1 ∷ c2 ∷ c3 ∷ c4 ∷ c5 ∷ []) ∷ [] | false ↦ [] ]
-cellsOf k (Declared set) = []
-cellsOf k (Removed set) = []
-cellsOf k (Comparisons names lengths angles dates) = []
-cellsOf k OnlyDeclared = []
-cellsOf k (Item variable attribute) = []
-cellsOf k (CompareTwo variable attribute operator variable2 attribute2) = []
-cellsOf k (CompareConstant variable attribute operator cell) = []
-cellsOf k End = []
+cellsOf k (OfBook (Declared set)) = []
+cellsOf k (OfBook (Removed set)) = []
+cellsOf k (OfBook (ComparisonTable names lengths angles dates)) = []
+cellsOf k (OfBook OnlyDeclared) = []
+cellsOf k (OfQuery r) = []
 
 unfoldable pub rowOf : ℕ → Reading → List Tables.Row
 rowOf k Nothing = []

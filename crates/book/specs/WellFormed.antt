@@ -8,6 +8,7 @@ use lib.ListN.{length, getD}
 use Rattle.sets.specs.Sets.{_∈_, _∉_, _⊆_, count}
 use Rattle.values.specs.Table.{Rules}
 use Rattle.scheme.specs.declared.Scheme.{Scheme}
+use Rattle.scheme.specs.declared.MaximalRecords.{MaximalRecords}
 use Rattle.scheme.specs.Dependencies.{Dependency}
 use Rattle.scheme.specs.OfScheme.{dependenciesOf, declaredOf, removedOf}
 use Rattle.scheme.specs.Statements.{SomeObjects}
@@ -23,16 +24,19 @@ pub record ObjectSet (attributes s : ℕ) : Type 0 where
   pub six : count 32 s ≤ 6
 
 -- the arrays are whole, and their counts are within "64 dependencies; 8 records of kind 5 and 8 of kind 6"
+pub record MaximalArrays (m : MaximalRecords) : Type 0 where
+  pub declared : length (m .declared) ≡ 8
+  pub removed : length (m .removed) ≡ 8
+  pub declarations : m .declarations ≤ 8
+  pub removals : m .removals ≤ 8
+
 pub record Arrays (s : Scheme) : Type 0 where
   pub kinds : length (s .kinds) ≡ 32
   pub sets : length (s .sets) ≡ 32
   pub left : length (s .left) ≡ 64
   pub right : length (s .right) ≡ 64
-  pub declared : length (s .declared) ≡ 8
-  pub removed : length (s .removed) ≡ 8
   pub dependencies : s .dependencies ≤ 64
-  pub declarations : s .declarations ≤ 8
-  pub removals : s .removals ≤ 8
+  pub maximal : MaximalArrays (s .maximal)
 
 pub record WellFormed (s : Scheme) : Type 0 where
   pub arrays : Arrays s
@@ -42,7 +46,7 @@ pub record WellFormed (s : Scheme) : Type 0 where
   -- value kinds are 0 to 3
   pub kindsBelow : (a : ℕ) → getD (s .kinds) a 0 < 4
   -- the comparison table keeps the rules of one
-  pub rules : Rules (s .table)
+  pub rules : Rules (s .table .masks)
   pub objectSets : (k : ℕ) → k ∈ s .objects → ObjectSet (s .attributes) (getD (s .sets) k 0)
   pub otherSets : (k : ℕ) → k ∉ s .objects → getD (s .sets) k 0 ≡ 0
   pub sides : (d : Dependency) → List·Memᴰ d (dependenciesOf s)

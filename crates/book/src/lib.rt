@@ -6,17 +6,20 @@ ghost use lib.ListN.{length, drop};
 ghost use Rattle.sets.specs.Sets.{count};
 ghost use Rattle.scheme.specs.OfScheme.{maximalOf};
 ghost use Rattle.records.specs.Checks.{firstOf};
-ghost use Rattle.records.specs.Records.{ofBook};
+ghost use Rattle.records.specs.Records.{ofBook, masksOf};
 ghost use Rattle.records.specs.Walking.{shortNumber};
 ghost use Rattle.book.specs.Faults.{someNonZero, someOutside, wrongCells, SixAtMost, rowChecks};
 ghost use Rattle.book.specs.Faults.{maximalChecks, faultOf};
-ghost use Rattle.book.specs.Declaring.{nothingDeclared, withAttribute, withObject, withDependency, withDeclared};
-ghost use Rattle.book.specs.Declaring.{withRemoved, withTable, withOnly, declare};
+ghost use Rattle.book.specs.Declaring.{nothingDeclared, withAttribute, withObject, withDependency, withMaximal};
+ghost use Rattle.book.specs.Declaring.{withTable, withDeclared, withRemoved, withOnly, withMasks, declare};
 ghost use Rattle.book.specs.Reading.{isRow, stopNumber, records, walkedOf, lastNumber, lastFault};
 ghost use Rattle.book.specs.Reading.{read, bookWith, bookOf, stored};
+use records::BookRecord;
 use records::Reading;
 use records::Record;
+use scheme::MaximalRecords;
 use scheme::Scheme;
+use scheme::TableOfMasks;
 use sets::ATTRIBUTES;
 use sets::AttributeSet;
 use sets::OBJECTS;
@@ -71,7 +74,7 @@ fn wrong_cells(kinds: [u8; KINDS], set: AttributeSet, cells: [u32; 6]) -> bool
 
 // The faults of kinds 1 to 6 and 13, each by the paper's order.
 fn attribute_fault(s: Scheme, id: u8, kind: u8) -> u8
-    ensures { λ r. ⌜ r ≡ faultOf s (Record.Attribute id kind) ⌝ }
+    ensures { λ r. ⌜ r ≡ faultOf s (Record.OfBook (BookRecord.Attribute id kind)) ⌝ }
 {
     if id > 31 {
         return 5;
@@ -86,7 +89,7 @@ fn attribute_fault(s: Scheme, id: u8, kind: u8) -> u8
 }
 
 fn object_fault(s: Scheme, number: u8, set: AttributeSet) -> u8
-    ensures { λ r. ⌜ r ≡ faultOf s (Record.Object number set) ⌝ }
+    ensures { λ r. ⌜ r ≡ faultOf s (Record.OfBook (BookRecord.Object number set)) ⌝ }
 {
     if number > 31 {
         return 5;
@@ -107,7 +110,7 @@ fn object_fault(s: Scheme, number: u8, set: AttributeSet) -> u8
 }
 
 fn dependency_fault(s: Scheme, left: AttributeSet, right: AttributeSet) -> u8
-    ensures { λ r. ⌜ r ≡ faultOf s (Record.Dependency left right) ⌝ }
+    ensures { λ r. ⌜ r ≡ faultOf s (Record.OfBook (BookRecord.Dependency left right)) ⌝ }
 {
     if s.dependencies >= 64 {
         return 4;
@@ -163,9 +166,9 @@ fn maximal_fault(s: Scheme, n: usize, set: ObjectSet) -> u8
 
 // The fault of a comparison table: one more than its bound, or one that breaks the rules.
 fn table_fault(s: Scheme, names: u32, lengths: u32, angles: u32, dates: u32) -> u8
-    ensures { λ r. ⌜ r ≡ faultOf s (Record.Comparisons names lengths angles dates) ⌝ }
+    ensures { λ r. ⌜ r ≡ faultOf s (Record.OfBook (BookRecord.ComparisonTable names lengths angles dates)) ⌝ }
 {
-    if s.tables >= 1 {
+    if s.table.given >= 1 {
         return 4;
     }
     if !values::keeps_rules(records::masks_of(names, lengths, angles, dates)) {
@@ -174,16 +177,16 @@ fn table_fault(s: Scheme, names: u32, lengths: u32, angles: u32, dates: u32) -> 
     0
 }
 
-// The fault of a whole record, 0 where it has none.
-fn fault(s: Scheme, r: Record) -> u8
+// The fault of a whole record of a book, 0 where it has none.
+fn book_fault(s: Scheme, r: BookRecord) -> u8
     requires { ⌜ SixAtMost s ⌝ }
-    ensures { λ n. ⌜ n ≡ faultOf s r ⌝ }
+    ensures { λ n. ⌜ n ≡ faultOf s (Record.OfBook r) ⌝ }
 {
     match r {
-        Record::Attribute { id, kind } => attribute_fault(s, id, kind),
-        Record::Object { number, set } => object_fault(s, number, set),
-        Record::Dependency { left, right } => dependency_fault(s, left, right),
-        Record::Row {
+        BookRecord::Attribute { id, kind } => attribute_fault(s, id, kind),
+        BookRecord::Object { number, set } => object_fault(s, number, set),
+        BookRecord::Dependency { left, right } => dependency_fault(s, left, right),
+        BookRecord::Row {
             object,
             c0,
             c1,
@@ -192,16 +195,26 @@ fn fault(s: Scheme, r: Record) -> u8
             c4,
             c5,
         } => { row_fault(s, object, [c0, c1, c2, c3, c4, c5]) }
-        Record::Declared { set } => maximal_fault(s, s.declarations, set),
-        Record::Removed { set } => maximal_fault(s, s.removals, set),
-        Record::Comparisons {
+        BookRecord::Declared { set } => maximal_fault(s, s.maximal.declarations, set),
+        BookRecord::Removed { set } => maximal_fault(s, s.maximal.removals, set),
+        BookRecord::ComparisonTable {
             names,
             lengths,
             angles,
             dates,
         } => { table_fault(s, names, lengths, angles, dates) }
-        Record::OnlyDeclared => 0,
-        _ => 2,
+        BookRecord::OnlyDeclared => 0,
+    }
+}
+
+// The fault of a whole record: a query's may not stand in a book.
+fn fault(s: Scheme, r: Record) -> u8
+    requires { ⌜ SixAtMost s ⌝ }
+    ensures { λ n. ⌜ n ≡ faultOf s r ⌝ }
+{
+    match r {
+        Record::OfBook(record) => book_fault(s, record),
+        Record::OfQuery(_) => 2,
     }
 }
 
@@ -209,7 +222,15 @@ fn fault(s: Scheme, r: Record) -> u8
 fn nothing_declared() -> Scheme
     ensures { λ r. ⌜ r ≡ nothingDeclared ⌝ }
 {
-    let table = values::built_in();
+    let masks = values::built_in();
+    let maximal = MaximalRecords {
+        declared: [0u32; 8],
+        declarations: 0,
+        removed: [0u32; 8],
+        removals: 0,
+        only: false,
+    };
+    let table = TableOfMasks { masks, given: 0 };
     Scheme {
         kinds: [0u8; KINDS],
         attributes: 0,
@@ -218,13 +239,8 @@ fn nothing_declared() -> Scheme
         left: [0u32; 64],
         right: [0u32; 64],
         dependencies: 0,
-        declared: [0u32; 8],
-        declarations: 0,
-        removed: [0u32; 8],
-        removals: 0,
-        only: false,
+        maximal,
         table,
-        tables: 0,
     }
 }
 
@@ -261,61 +277,85 @@ fn with_dependency(mut s: Scheme, left: AttributeSet, right: AttributeSet) -> Sc
 }
 
 fn with_declared(mut s: Scheme, set: ObjectSet) -> Scheme
-    requires { ⌜ s .declarations < 8 ⌝ }
-    ensures { λ r. ⌜ r ≡ withDeclared s set ⌝ }
+    requires { ⌜ s .maximal .declarations < 8 ⌝ }
+    ensures { λ r. ⌜ r ≡ withMaximal s (withDeclared (s .maximal) set) ⌝ }
 {
-    let i = s.declarations;
-    s.declared[i] = set;
-    s.declarations = i + 1;
+    let mut m = s.maximal;
+    let i = m.declarations;
+    m.declared[i] = set;
+    m.declarations = i + 1;
+    s.maximal = m;
     s
 }
 
 fn with_removed(mut s: Scheme, set: ObjectSet) -> Scheme
-    requires { ⌜ s .removals < 8 ⌝ }
-    ensures { λ r. ⌜ r ≡ withRemoved s set ⌝ }
+    requires { ⌜ s .maximal .removals < 8 ⌝ }
+    ensures { λ r. ⌜ r ≡ withMaximal s (withRemoved (s .maximal) set) ⌝ }
 {
-    let i = s.removals;
-    s.removed[i] = set;
-    s.removals = i + 1;
+    let mut m = s.maximal;
+    let i = m.removals;
+    m.removed[i] = set;
+    m.removals = i + 1;
+    s.maximal = m;
     s
 }
 
 fn with_table(mut s: Scheme, names: u32, lengths: u32, angles: u32, dates: u32) -> Scheme
-    requires { ⌜ s .tables < 1 ⌝ }
-    ensures { λ r. ⌜ r ≡ withTable s names lengths angles dates ⌝ }
+    requires { ⌜ s .table .given < 1 ⌝ }
+    ensures { λ r. ⌜ r ≡ withTable s (withMasks (s .table) (masksOf names lengths angles dates)) ⌝ }
 {
-    let table = records::masks_of(names, lengths, angles, dates);
+    let masks = records::masks_of(names, lengths, angles, dates);
+    let given = s.table.given + 1;
+    let table = TableOfMasks { masks, given };
     s.table = table;
-    s.tables = s.tables + 1;
     s
 }
 
 fn with_only(mut s: Scheme) -> Scheme
-    ensures { λ r. ⌜ r ≡ withOnly s ⌝ }
+    ensures { λ r. ⌜ r ≡ withMaximal s (withOnly (s .maximal)) ⌝ }
 {
-    s.only = true;
+    s.maximal.only = true;
     s
 }
 
-// What a record without a fault adds to a scheme.
-fn declare(s: Scheme, r: Record) -> Scheme
-    requires { ⌜ faultOf s r ≡ 0 ⌝ }
-    ensures { λ d. ⌜ d ≡ declare s r ⌝ }
+// What a record of a book without a fault adds to a scheme.
+fn declare_record(s: Scheme, r: BookRecord) -> Scheme
+    requires { ⌜ faultOf s (Record.OfBook r) ≡ 0 ⌝ }
+    ensures { λ d. ⌜ d ≡ declare s (Record.OfBook r) ⌝ }
 {
     match r {
-        Record::Attribute { id, kind } => with_attribute(s, id, kind),
-        Record::Object { number, set } => with_object(s, number, set),
-        Record::Dependency { left, right } => with_dependency(s, left, right),
-        Record::Declared { set } => with_declared(s, set),
-        Record::Removed { set } => with_removed(s, set),
-        Record::Comparisons {
+        BookRecord::Attribute { id, kind } => with_attribute(s, id, kind),
+        BookRecord::Object { number, set } => with_object(s, number, set),
+        BookRecord::Dependency { left, right } => with_dependency(s, left, right),
+        BookRecord::Row {
+            object: _,
+            c0: _,
+            c1: _,
+            c2: _,
+            c3: _,
+            c4: _,
+            c5: _,
+        } => s,
+        BookRecord::Declared { set } => with_declared(s, set),
+        BookRecord::Removed { set } => with_removed(s, set),
+        BookRecord::ComparisonTable {
             names,
             lengths,
             angles,
             dates,
         } => { with_table(s, names, lengths, angles, dates) }
-        Record::OnlyDeclared => with_only(s),
-        _ => s,
+        BookRecord::OnlyDeclared => with_only(s),
+    }
+}
+
+// What a record without a fault adds to a scheme; a query's stands in no book.
+fn declare(s: Scheme, r: Record) -> Scheme
+    requires { ⌜ faultOf s r ≡ 0 ⌝ }
+    ensures { λ d. ⌜ d ≡ declare s r ⌝ }
+{
+    match r {
+        Record::OfBook(record) => declare_record(s, record),
+        Record::OfQuery(_) => s,
     }
 }
 
@@ -323,19 +363,7 @@ fn declare(s: Scheme, r: Record) -> Scheme
 fn is_row(r: Record) -> bool
     ensures { λ b. ⌜ b ≡ isRow r ⌝ }
 {
-    if let Record::Row {
-        object: _,
-        c0: _,
-        c1: _,
-        c2: _,
-        c3: _,
-        c4: _,
-        c5: _,
-    } = r {
-        true
-    } else {
-        false
-    }
+    records::kind_of(r) == 4
 }
 
 // The fault of a body that is cut short, by its kind.

@@ -12,13 +12,14 @@ use Rattle.values.specs.Operators.{compares, holds}
 use Rattle.values.specs.Table.{builtIn, allows, keepsRules, entryKeeps, everyBelow, mirrored}
 use Rattle.records.specs.Fields.{bytes, value, field}
 use Rattle.records.specs.Records.{kinds, whose, isKind, ofBook, ofQuery, bodyLength, kindOf}
-use Rattle.records.specs.Records.{bytesOf, bytesOfAll}
+use Rattle.records.specs.Records.{bytesOf, bytesOfAll, bytesOfBook, bytesOfQuery}
 use Rattle.records.specs.Reader.{bodies, recordOf, readFront, readAt}
 use Rattle.records.specs.Checks.{firstOf}
 use Rattle.records.specs.Walking.{shortNumber, walkFrom, walk}
-use Rattle.records.specs.declared.Record.{Record}
-use Rattle.records.specs.declared.Record.the-variants.{Attribute, Object, Row, Comparisons, Item, CompareTwo}
-use Rattle.records.specs.declared.Record.the-variants.{CompareConstant, End}
+use Rattle.records.specs.declared.BookRecord.{BookRecord}
+use Rattle.records.specs.declared.QueryRecord.{QueryRecord}
+use Rattle.records.specs.declared.BookRecord.the-variants.{Attribute, Object, Row, ComparisonTable}
+use Rattle.records.specs.declared.QueryRecord.the-variants.{Item, CompareTwo, CompareConstant, End}
 use Rattle.reduction.specs.Kept.{union, around, someHolds, removable, stays, staying, settle, left, acyclic}
 use Rattle.reduction.specs.Kept.{goesFor, goes, keeps, keptOf, kept}
 use Rattle.relation.specs.Tables.{cellOf, projected, project}
@@ -32,7 +33,7 @@ use Rattle.scheme.specs.OfScheme.{pairs, computedOf, maximalOf, bothOf, cyclicO
 use Rattle.book.specs.Faults.{someNonZero, someOutside, wrongCells, rowChecks, maximalChecks, checks}
 use Rattle.book.specs.Faults.{faultOf}
 use Rattle.book.specs.Declaring.{nothingDeclared, withAttribute, withObject, withDependency, withDeclared, withRemoved}
-use Rattle.book.specs.Declaring.{withOnly, withTable, declare}
+use Rattle.book.specs.Declaring.{withMaximal, withTable, withOnly, withMasks, declare}
 use Rattle.book.specs.Reading.{isRow, withRow, records, lastNumber, lastFault, afterLast, read}
 use Rattle.book.specs.TablesOf as Tables
 use Rattle.book.specs.TablesOf.{tablesOf}
@@ -55,25 +56,25 @@ use Rattle.connection.specs.Answering.{rowsOf, spaceNumber, number, refu
 -- ---- books
 
 -- the unit's book is `survey` of `book`. With it a table of a name, joined with no other, with no row
-unfoldable pub withEmpty : List Record
+unfoldable pub withEmpty : List BookRecord
 withEmpty = survey ++ Attribute 4 0 ∷ Object 3 16 ∷ []
 
 -- one table of lengths: 5, -900 and -2500 millimetres
-unfoldable pub lengths : List Record
+unfoldable pub lengths : List BookRecord
 lengths =
     Attribute 0 1 ∷ Object 0 1
     ∷ Row 0 5 0 0 0 0 0 ∷ Row 0 4294966396 0 0 0 0 0 ∷ Row 0 4294964796 0 0 0 0 0 ∷ []
 
 -- two maximal objects that share attribute 1: no dependency joins them
-unfoldable pub twoObjects : List Record
+unfoldable pub twoObjects : List BookRecord
 twoObjects =
     Attribute 0 0 ∷ Attribute 1 0 ∷ Attribute 2 0 ∷ Object 0 3 ∷ Object 1 6
     ∷ Row 0 1 20 0 0 0 0 ∷ Row 0 2 30 0 0 0 0 ∷ Row 1 10 5 0 0 0 0 ∷ Row 1 20 6 0 0 0 0 ∷ []
 
 -- a length beside a date, over a table that allows all six operators between the two: -5 and 3, 7 and 3
-unfoldable pub beside : List Record
+unfoldable pub beside : List BookRecord
 beside =
-    Attribute 0 1 ∷ Attribute 1 3 ∷ Object 0 3 ∷ Comparisons 3 1056980736 196608 1056980736
+    Attribute 0 1 ∷ Attribute 1 3 ∷ Object 0 3 ∷ ComparisonTable 3 1056980736 196608 1056980736
     ∷ Row 0 4294967291 3 0 0 0 0 ∷ Row 0 7 3 0 0 0 0 ∷ []
 
 -- ---- queries
@@ -88,15 +89,15 @@ queries =
     ∷ []
 
 -- what is returned (number, rows, serial, bytes read), and the space afterwards
-unfoldable pub outcome : List Record → List ℕ → ℕ → List ℕ → List (List ℕ)
+unfoldable pub outcome : List BookRecord → List ℕ → ℕ → List ℕ → List (List ℕ)
 outcome book q serial space =
-    let b : List ℕ = bytesOfAll book in
+    let b : List ℕ = bytesOfBook book in
     let a : Answer = answerOf b q serial (length space) in
     (a .refusal ∷ a .rows ∷ a .serial ∷ a .read ∷ []) ∷ spaceAfter b q serial space ∷ []
 
 -- the rows of a query's records with kind 10 behind them
-unfoldable pub rows : List Record → List Record → List (List ℕ)
-rows book query = rowsOf (bytesOfAll book) (bytesOfAll (query ++ End ∷ []))
+unfoldable pub rows : List BookRecord → List QueryRecord → List (List ℕ)
+rows book query = rowsOf (bytesOfBook book) (bytesOfQuery (query ++ End ∷ []))
 
 -- ---- the trials
 
@@ -161,7 +162,7 @@ unfolding outcomes outcome queries twoObjects lengths withEmpty survey ring spac
     wholeNumber someUnconnected unconnected isNil containing walkQuery isEnd Queries.faultOf Queries.checks ofQuery
     askedOf filled attributesNamed naming namesOf nameOf comparisonsOf comparisonOf itemsOf itemOf tablesOf
     Tables.rowsOf Tables.rowOf Tables.cellsOf read afterLast lastFault lastNumber records withRow isRow declare
-    withOnly withRemoved withDeclared withDependency withObject withAttribute nothingDeclared faultOf checks
+    withMaximal withOnly withRemoved withDeclared withDependency withObject withAttribute nothingDeclared faultOf checks
     maximalChecks rowChecks wrongCells someOutside someNonZero ofBook cyclicOf bothOf maximalOf computedOf pairs
     someCyclic counted bothKinds maximalObjects adding removing isOne computed grown rounds holding joins attributesOf
     familyOf closure passes pass part joinRows goingOn eachPassing matchesAll rowsMatch allPass shownRows
@@ -208,13 +209,15 @@ rowTrials =
     ∷ []
 
 pub rows-hold : map (λ t. t .gives) rowTrials ≡ map (λ t. t .says) rowTrials
-unfolding rowTrials rows beside withTable keepsRules entryKeeps everyBelow mirrored twoObjects lengths withEmpty survey
+unfolding rowTrials rows beside withTable withMasks keepsRules entryKeeps everyBelow mirrored twoObjects lengths
+    withEmpty survey
     ring spaceAfter answerOf refused number spaceNumber rowsOf answerRows itemKinds choices inFront rowsFor cellsOf
     allTrue isTrue rightCell itemCells Answers.rowsOf connection parts withRows Sorted.cellsOf insertRows insertRow
     lessRow Query.read atEnd wholeNumber someUnconnected unconnected isNil containing walkQuery isEnd Queries.faultOf
     Queries.checks ofQuery askedOf filled attributesNamed naming namesOf nameOf comparisonsOf comparisonOf itemsOf
     itemOf tablesOf Tables.rowsOf Tables.rowOf Tables.cellsOf read afterLast lastFault lastNumber records withRow isRow
-    declare withOnly withRemoved withDeclared withDependency withObject withAttribute nothingDeclared faultOf checks
+    declare withMaximal withOnly withRemoved withDeclared withDependency withObject withAttribute nothingDeclared
+    faultOf checks
     maximalChecks rowChecks wrongCells someOutside someNonZero ofBook cyclicOf bothOf maximalOf computedOf pairs
     someCyclic counted bothKinds maximalObjects adding removing isOne computed grown rounds holding joins attributesOf
     familyOf closure passes pass part joinRows goingOn eachPassing matchesAll rowsMatch allPass shownRows together

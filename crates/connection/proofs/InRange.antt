@@ -8,7 +8,8 @@ use Prim.Native.Nat.{ℕ}
 use lib.ListN.{length}
 use Rattle.sets.proofs.Numbers.{lt-or-le}
 use Rattle.records.specs.declared.Record.{Record}
-use Rattle.records.specs.declared.Record.the-variants.{End}
+use Rattle.records.specs.declared.Record.the-variants.{OfQuery}
+use Rattle.records.specs.declared.QueryRecord.the-variants.{End}
 use Rattle.scheme.specs.declared.Scheme.{Scheme}
 use Rattle.query.specs.Reading.{Outcome, read}
 use Rattle.query.specs.Accepting.{Names, NamedIn, Accepted, StopsWith, faulty, unended, refused, answered}
@@ -16,10 +17,10 @@ use Rattle.query.proofs.Theorems.{read-exactly, accepted-fits}
 use Rattle.connection.specs.Statements.{NamesInRange}
 
 -- kind 10 names nothing
-end-names-none : {v a : ℕ} → Names v a End → ⊥
+end-names-none : {v a : ℕ} → Names v a (OfQuery End) → ⊥
 end-names-none n = elim n [ ]
 
-named-before : (rs : List Record) {v a : ℕ} → NamedIn (rs ++ End ∷ []) v a → NamedIn rs v a
+named-before : (rs : List Record) {v a : ℕ} → NamedIn (rs ++ OfQuery End ∷ []) v a → NamedIn rs v a
 named-before rs {v} {a} n =
     ⊎-elim (λ m. record { by = n .by; there = m; names = n .names })
     (λ m. absurd (end-names-none (subst (Names v a) (List·Memᴰ·eq-of-singleton m) (n .names))))
@@ -29,7 +30,7 @@ accepted-in-range : {s : Scheme} {b : List ℕ} {rs : List Record} {at : ℕ} �
 accepted-in-range {s} {b} {rs} {at} k = record { each = λ v a n. accepted-fits s b .named rs at v a k n }
 
 ended-in-range : {s : Scheme} {b : List ℕ} {rs : List Record} {at : ℕ} → Accepted s b rs at
-    → NamesInRange (rs ++ End ∷ [])
+    → NamesInRange (rs ++ OfQuery End ∷ [])
 ended-in-range {rs = rs} k = record { each = λ v a n. accepted-in-range k .each v a (named-before rs n) }
 
 stops-in-range : {s : Scheme} {Ms b : List ℕ} {o : Outcome} → StopsWith s Ms b o → NamesInRange (o .records)

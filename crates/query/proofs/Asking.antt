@@ -8,19 +8,18 @@ use mathlib.Core.List.{List, [], _∷_, _++_, append-nil, append-assoc}
 use Prim.Native.Nat.{ℕ, zero, suc, _+_, _<_}
 use native.Mathlib.Nat.{le-of-suc-le-suc, not-suc-le-zero}
 use native.Mathlib.Omega.{arith}
-use borrow.Author.Tests.{ltb-false, leb-false}
+use borrow.Author.Tests.{eqb-true, ltb-false, leb-false}
 use lib.Dec.{eqb, ltb, leb}
 use lib.ListN.{length, getD, set, length-append}
-use types.Run.{OneOf, miss}
-use denote.Enum.Declared.{tagOf}
 use Rattle.sets.specs.Sets.{insert}
 use Rattle.sets.proofs.Tests.{yes-no, no-or}
-use Rattle.records.proofs.Record.{the-type}
+use Rattle.records.specs.Records.{kinds, whose, ofBook, kindOf}
+use Rattle.records.proofs.Records.{of-book-kind}
 use Rattle.records.proofs.Checks.{none-first}
 use Rattle.records.specs.declared.Record.{Record}
-use Rattle.records.specs.declared.Record.the-variants.{Attribute, Object, Dependency, Row, Declared, Removed}
-use Rattle.records.specs.declared.Record.the-variants.{Comparisons, OnlyDeclared, Item}
-use Rattle.records.specs.declared.Record.the-variants.{CompareTwo, CompareConstant, End}
+use Rattle.records.specs.declared.QueryRecord.{QueryRecord}
+use Rattle.records.specs.declared.Record.the-variants.{OfBook, OfQuery}
+use Rattle.records.specs.declared.QueryRecord.the-variants.{Item, CompareTwo, CompareConstant, End}
 use Rattle.scheme.specs.declared.Scheme.{Scheme}
 use Rattle.query.specs.declared.Asked.{Asked}
 use Rattle.query.specs.declared.QueryItem.{QueryItem}
@@ -35,9 +34,9 @@ use Rattle.query.specs.Reading.{isEnd}
 -- ---- what a record without a fault has
 
 -- the code has the record by its variant
-pub same-fault : (s : Scheme) (items comparisons : ℕ) {r q : Record} → r ≡ q → faultOf s items comparisons r ≡ 0
-    → faultOf s items comparisons q ≡ 0
-same-fault s items comparisons e f = ap (faultOf s items comparisons) (sym e) ∙ f
+pub same-fault : (s : Scheme) (items comparisons : ℕ) {r q : QueryRecord} → r ≡ q
+    → faultOf s items comparisons (OfQuery r) ≡ 0 → faultOf s items comparisons (OfQuery q) ≡ 0
+same-fault s items comparisons e f = ap (λ (r : QueryRecord). faultOf s items comparisons (OfQuery r)) (sym e) ∙ f
 
 -- room for one more, and a name within range
 pub record NewName (before bound v a : ℕ) : Type 0 where
@@ -46,7 +45,7 @@ pub record NewName (before bound v a : ℕ) : Type 0 where
   pub attribute : a < 32
 
 module _ (s : Scheme) (items comparisons : ℕ) where
-  pub item-accepted : (v a : ℕ) → faultOf s items comparisons (Item v a) ≡ 0 → NewName items 8 v a
+  pub item-accepted : (v a : ℕ) → faultOf s items comparisons (OfQuery (Item v a)) ≡ 0 → NewName items 8 v a
   unfolding faultOf checks
   item-accepted v a e =
       let room = none-first (leb 8 items) 4 _ (λ z. omega arith) e in
@@ -58,7 +57,8 @@ module _ (s : Scheme) (items comparisons : ℕ) where
         attribute = omega (arith, ltb-false 31 a (small .1));
       }
 
-  pub two-accepted : (v a operator v2 a2 : ℕ) → faultOf s items comparisons (CompareTwo v a operator v2 a2) ≡ 0
+  pub two-accepted : (v a operator v2 a2 : ℕ) → faultOf s items comparisons (OfQuery (CompareTwo v a operator v2 a2))
+      ≡ 0
       → NewName comparisons 16 v a × NewName comparisons 16 v2 a2
   unfolding faultOf checks
   two-accepted v a operator v2 a2 e =
@@ -81,7 +81,8 @@ module _ (s : Scheme) (items comparisons : ℕ) where
         },
       )
 
-  pub constant-accepted : (v a operator cell : ℕ) → faultOf s items comparisons (CompareConstant v a operator cell) ≡ 0
+  pub constant-accepted : (v a operator cell : ℕ)
+      → faultOf s items comparisons (OfQuery (CompareConstant v a operator cell)) ≡ 0
       → NewName comparisons 16 v a
   unfolding faultOf checks
   constant-accepted v a operator cell e =
@@ -120,13 +121,13 @@ unfolding comparisonsOf
 comparisons-more = each-more comparisonOf comparisonsOf (record { none = refl; more = λ r rs. refl })
 
 -- the end of a query asks nothing
-pub items-at-end : (rs : List Record) → itemsOf (rs ++ End ∷ []) ≡ itemsOf rs
+pub items-at-end : (rs : List Record) → itemsOf (rs ++ OfQuery End ∷ []) ≡ itemsOf rs
 unfolding itemOf
-items-at-end rs = items-more rs End ∙ append-nil (itemsOf rs)
+items-at-end rs = items-more rs (OfQuery End) ∙ append-nil (itemsOf rs)
 
-pub comparisons-at-end : (rs : List Record) → comparisonsOf (rs ++ End ∷ []) ≡ comparisonsOf rs
+pub comparisons-at-end : (rs : List Record) → comparisonsOf (rs ++ OfQuery End ∷ []) ≡ comparisonsOf rs
 unfolding comparisonOf
-comparisons-at-end rs = comparisons-more rs End ∙ append-nil (comparisonsOf rs)
+comparisons-at-end rs = comparisons-more rs (OfQuery End) ∙ append-nil (comparisonsOf rs)
 
 names-more : (rs : List Record) (r : Record) → namesOf (rs ++ r ∷ []) ≡ namesOf rs ++ nameOf r
 unfolding namesOf
@@ -197,18 +198,20 @@ asks-nothing rs r i c n =
 
 module _ (rs : List Record) (v a : ℕ) (h : v < 4) where
   asked-item : length (itemsOf rs) < 8
-      → withName (withItem (askedOf rs) (pair v a)) v a ≡ askedOf (rs ++ Item v a ∷ [])
+      → withName (withItem (askedOf rs) (pair v a)) v a ≡ askedOf (rs ++ OfQuery (Item v a) ∷ [])
   unfolding askedOf withName withItem itemOf comparisonOf nameOf
   asked-item room =
-      let r = Item v a in
-      let e1 : set (filled (pair 0 0) 8 (itemsOf rs)) (length (itemsOf rs)) (pair v a) ≡ filled (pair 0 0) 8 (itemsOf (rs
+      let r = OfQuery (Item v a) in
+      let e1 : set (filled (pair 0 0) 8 (itemsOf rs)) (length (itemsOf rs)) (pair v a)
+      ≡ filled (pair 0 0) 8 (itemsOf (rs
       ++ r ∷ [])) =
       filled-more (pair 0 0) 8 (itemsOf rs) (pair v a) room ∙ ap (filled (pair 0 0) 8) (sym (items-more rs r)) in
       let e2 : length (itemsOf rs) + 1 ≡ length (itemsOf (rs ++ r ∷ [])) =
       omega (arith, ap length (items-more rs r), length-append (itemsOf rs) (pair v a ∷ [])) in
       let e3 : comparisonsOf (rs ++ r ∷ []) ≡ comparisonsOf rs =
       comparisons-more rs r ∙ append-nil (comparisonsOf rs) in
-      let e4 = four-named v a (attributesNamed rs 0) (attributesNamed rs 1) (attributesNamed rs 2) (attributesNamed rs 3)
+      let e4 = four-named v a (attributesNamed rs 0) (attributesNamed rs 1) (attributesNamed rs 2)
+      (attributesNamed rs 3)
       h ∙ sym (four-more rs r) in
       cc
 
@@ -227,22 +230,23 @@ module _ (rs : List Record) (operator : ℕ) (room : length (comparisonsOf rs) <
 
   asked-constant : (v a cell : ℕ) → v < 4
       → withName (withComparison (askedOf rs) (withCell v a operator cell)) v a
-      ≡ askedOf (rs ++ CompareConstant v a operator cell ∷ [])
+      ≡ askedOf (rs ++ OfQuery (CompareConstant v a operator cell) ∷ [])
   unfolding askedOf withName withComparison itemOf comparisonOf nameOf
   asked-constant v a cell h =
-      let r = CompareConstant v a operator cell in
+      let r = OfQuery (CompareConstant v a operator cell) in
       let e1 = compared-more r (withCell v a operator cell) refl in
       let e2 : itemsOf (rs ++ r ∷ []) ≡ itemsOf rs = items-more rs r ∙ append-nil (itemsOf rs) in
-      let e3 = four-named v a (attributesNamed rs 0) (attributesNamed rs 1) (attributesNamed rs 2) (attributesNamed rs 3)
+      let e3 = four-named v a (attributesNamed rs 0) (attributesNamed rs 1) (attributesNamed rs 2)
+      (attributesNamed rs 3)
       h ∙ sym (four-more rs r) in
       cc (e1 .0, e1 .1)
 
   asked-two : (v a v2 a2 : ℕ) → v < 4 → v2 < 4
       → withName (withName (withComparison (askedOf rs) (ofTwo v a operator v2 a2)) v a) v2 a2
-      ≡ askedOf (rs ++ CompareTwo v a operator v2 a2 ∷ [])
+      ≡ askedOf (rs ++ OfQuery (CompareTwo v a operator v2 a2) ∷ [])
   unfolding askedOf withName withComparison itemOf comparisonOf nameOf naming
   asked-two v a v2 a2 h h2 =
-      let r = CompareTwo v a operator v2 a2 in
+      let r = OfQuery (CompareTwo v a operator v2 a2) in
       let e1 = compared-more r (ofTwo v a operator v2 a2) refl in
       let e2 : itemsOf (rs ++ r ∷ []) ≡ itemsOf rs = items-more rs r ∙ append-nil (itemsOf rs) in
       let once = four-named v a (attributesNamed rs 0) (attributesNamed rs 1) (attributesNamed rs 2)
@@ -255,88 +259,43 @@ pub asked-record : (s : Scheme) (rs : List Record) (r : Record)
     → faultOf s (length (itemsOf rs)) (length (comparisonsOf rs)) r ≡ 0
     → withRecord (askedOf rs) r ≡ askedOf (rs ++ r ∷ [])
 unfolding withRecord itemOf comparisonOf nameOf
-asked-record s rs (Attribute id kind) f = asks-nothing rs (Attribute id kind) refl refl refl
-asked-record s rs (Object number set) f = asks-nothing rs (Object number set) refl refl refl
-asked-record s rs (Dependency left right) f = asks-nothing rs (Dependency left right) refl refl refl
-asked-record s rs (Row object c0 c1 c2 c3 c4 c5) f =
-    asks-nothing rs (Row object c0 c1 c2 c3 c4 c5) refl refl refl
-asked-record s rs (Declared set) f = asks-nothing rs (Declared set) refl refl refl
-asked-record s rs (Removed set) f = asks-nothing rs (Removed set) refl refl refl
-asked-record s rs (Comparisons names lengths angles dates) f =
-    asks-nothing rs (Comparisons names lengths angles dates) refl refl refl
-asked-record s rs OnlyDeclared f = asks-nothing rs OnlyDeclared refl refl refl
-asked-record s rs (Item v a) f =
+asked-record s rs (OfBook r) f = asks-nothing rs (OfBook r) refl refl refl
+asked-record s rs (OfQuery (Item v a)) f =
     let n = item-accepted s (length (itemsOf rs)) (length (comparisonsOf rs)) v a f in
     asked-item rs v a (n .variable) (n .room)
-asked-record s rs (CompareTwo v a operator v2 a2) f =
+asked-record s rs (OfQuery (CompareTwo v a operator v2 a2)) f =
     let n = two-accepted s (length (itemsOf rs)) (length (comparisonsOf rs)) v a operator v2 a2 f in
     asked-two rs operator (n .0 .room) v a v2 a2 (n .0 .variable) (n .1 .variable)
-asked-record s rs (CompareConstant v a operator cell) f =
+asked-record s rs (OfQuery (CompareConstant v a operator cell)) f =
     let n = constant-accepted s (length (itemsOf rs)) (length (comparisonsOf rs)) v a operator cell f in
     asked-constant rs operator (n .room) v a cell (n .variable)
-asked-record s rs End f = asks-nothing rs End refl refl refl
+asked-record s rs (OfQuery End) f = asks-nothing rs (OfQuery End) refl refl refl
 
-pub asked-end : (rs : List Record) → askedOf rs ≡ askedOf (rs ++ End ∷ [])
+pub asked-end : (rs : List Record) → askedOf rs ≡ askedOf (rs ++ OfQuery End ∷ [])
 unfolding itemOf comparisonOf nameOf
-asked-end rs = asks-nothing rs End refl refl refl
+asked-end rs = asks-nothing rs (OfQuery End) refl refl refl
 
-pub last-is-end : (r : Record) → isEnd r ≡ true → r ≡ End
-unfolding isEnd
-last-is-end (Attribute id kind) e = absurd (yes-no e refl)
-last-is-end (Object number set) e = absurd (yes-no e refl)
-last-is-end (Dependency left right) e = absurd (yes-no e refl)
-last-is-end (Row object c0 c1 c2 c3 c4 c5) e = absurd (yes-no e refl)
-last-is-end (Declared set) e = absurd (yes-no e refl)
-last-is-end (Removed set) e = absurd (yes-no e refl)
-last-is-end (Comparisons names lengths angles dates) e = absurd (yes-no e refl)
-last-is-end OnlyDeclared e = absurd (yes-no e refl)
-last-is-end (Item v a) e = absurd (yes-no e refl)
-last-is-end (CompareTwo v a operator v2 a2) e = absurd (yes-no e refl)
-last-is-end (CompareConstant v a operator cell) e = absurd (yes-no e refl)
-last-is-end End e = refl
+pub last-is-end : (r : Record) → isEnd r ≡ true → r ≡ OfQuery End
+unfolding isEnd kindOf ofBook whose kinds
+last-is-end (OfBook r) e = absurd (yes-no (of-book-kind r) (ap ofBook (eqb-true (kindOf (OfBook r)) 10 e)))
+last-is-end (OfQuery (Item v a)) e = absurd (yes-no e refl)
+last-is-end (OfQuery (CompareTwo v a operator v2 a2)) e = absurd (yes-no e refl)
+last-is-end (OfQuery (CompareConstant v a operator cell)) e = absurd (yes-no e refl)
+last-is-end (OfQuery End) e = refl
 
 -- ---- records by their variant
 
-pub of-variant : (s : Scheme) (items comparisons : ℕ) {n : ℕ} {r q : Record} → n ≡ faultOf s items comparisons q → r ≡ q
-    → n ≡ faultOf s items comparisons r
-of-variant s items comparisons e p = e ∙ ap (faultOf s items comparisons) (sym p)
+pub of-variant : (s : Scheme) (items comparisons : ℕ) {n : ℕ} {r q : QueryRecord}
+    → n ≡ faultOf s items comparisons (OfQuery q) → r ≡ q → n ≡ faultOf s items comparisons (OfQuery r)
+of-variant s items comparisons e p =
+    e ∙ ap (λ (r : QueryRecord). faultOf s items comparisons (OfQuery r)) (sym p)
 
-pub with-variant : (q : Asked) {d : Asked} {r p : Record} → d ≡ withRecord q p → r ≡ p → d ≡ withRecord q r
-with-variant q e p = e ∙ ap (withRecord q) (sym p)
-
-pub adds-nothing : (q : Asked) (r : Record) → OneOf (0 ∷ 1 ∷ 2 ∷ 3 ∷ 4 ∷ 5 ∷ 6 ∷ 7 ∷ 11 ∷ []) (tagOf the-type r)
-    → q ≡ withRecord q r
-unfolding withRecord
-adds-nothing q (Attribute id kind) h = refl
-adds-nothing q (Object number set) h = refl
-adds-nothing q (Dependency left right) h = refl
-adds-nothing q (Row object c0 c1 c2 c3 c4 c5) h = refl
-adds-nothing q (Declared set) h = refl
-adds-nothing q (Removed set) h = refl
-adds-nothing q (Comparisons names lengths angles dates) h = refl
-adds-nothing q OnlyDeclared h = refl
-adds-nothing q (Item v a) h = absurd (miss (0 ∷ 1 ∷ 2 ∷ 3 ∷ 4 ∷ 5 ∷ 6 ∷ 7 ∷ 11 ∷ []) 8 tt h)
-adds-nothing q (CompareTwo v a operator v2 a2) h = absurd (miss (0 ∷ 1 ∷ 2 ∷ 3 ∷ 4 ∷ 5 ∷ 6 ∷ 7 ∷ 11 ∷ []) 9 tt h)
-adds-nothing q (CompareConstant v a operator cell) h = absurd (miss (0 ∷ 1 ∷ 2 ∷ 3 ∷ 4 ∷ 5 ∷ 6 ∷ 7 ∷ 11 ∷ []) 10 tt h)
-adds-nothing q End h = refl
-
-pub not-the-end : (r : Record) → OneOf (0 ∷ 1 ∷ 2 ∷ 3 ∷ 4 ∷ 5 ∷ 6 ∷ 7 ∷ 8 ∷ 9 ∷ 10 ∷ []) (tagOf the-type r) → false ≡ isEnd r
-unfolding isEnd
-not-the-end (Attribute id kind) h = refl
-not-the-end (Object number set) h = refl
-not-the-end (Dependency left right) h = refl
-not-the-end (Row object c0 c1 c2 c3 c4 c5) h = refl
-not-the-end (Declared set) h = refl
-not-the-end (Removed set) h = refl
-not-the-end (Comparisons names lengths angles dates) h = refl
-not-the-end OnlyDeclared h = refl
-not-the-end (Item v a) h = refl
-not-the-end (CompareTwo v a operator v2 a2) h = refl
-not-the-end (CompareConstant v a operator cell) h = refl
-not-the-end End h = absurd (miss (0 ∷ 1 ∷ 2 ∷ 3 ∷ 4 ∷ 5 ∷ 6 ∷ 7 ∷ 8 ∷ 9 ∷ 10 ∷ []) 11 tt h)
+pub with-variant : (q : Asked) {d : Asked} {r p : QueryRecord} → d ≡ withRecord q (OfQuery p) → r ≡ p
+    → d ≡ withRecord q (OfQuery r)
+with-variant q e p = e ∙ ap (λ (r : QueryRecord). withRecord q (OfQuery r)) (sym p)
 
 -- what the code needs of a record without a fault
-module _ (s : Scheme) (items comparisons : ℕ) {r : Record} (f : faultOf s items comparisons r ≡ 0) where
+module _ (s : Scheme) (items comparisons : ℕ) {r : QueryRecord} (f : faultOf s items comparisons (OfQuery r) ≡ 0) where
   pub item-room : (v a : ℕ) → r ≡ Item v a → items < 8
   item-room v a e = item-accepted s items comparisons v a (same-fault s items comparisons e f) .room
 
@@ -356,7 +315,7 @@ module _ (s : Scheme) (items comparisons : ℕ) {r : Record} (f : faultOf s item
       let n = constant-accepted s items comparisons v a operator cell (same-fault s items comparisons e f) in
       (n .room, n .variable, n .attribute)
 
-pub with-item-record : (q : Asked) {d q′ : Asked} {r : Record} (v a : ℕ) → q′ ≡ withItem q (pair v a)
-    → d ≡ withName q′ v a → r ≡ Item v a → d ≡ withRecord q r
+pub with-item-record : (q : Asked) {d q′ : Asked} {r : QueryRecord} (v a : ℕ) → q′ ≡ withItem q (pair v a)
+    → d ≡ withName q′ v a → r ≡ Item v a → d ≡ withRecord q (OfQuery r)
 unfolding withRecord
 with-item-record q v a e d p = with-variant q (d ∙ ap (λ (x : Asked). withName x v a) e) p

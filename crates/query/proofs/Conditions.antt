@@ -12,12 +12,12 @@ use lib.Dec.{eqb}
 use lib.ListN.{length}
 use Rattle.sets.proofs.Tests.{yes-no}
 use Rattle.records.specs.Checks.{firstOf, First}
-use Rattle.records.specs.Records.{kinds, whose, isKind, ofQuery, kindOf}
+use Rattle.records.specs.Records.{whose, isKind, ofQuery, kindOf}
 use Rattle.records.specs.Walking.{Sound}
 use Rattle.records.specs.declared.Record.{Record}
-use Rattle.records.specs.declared.Record.the-variants.{Attribute, Object, Dependency, Row, Declared, Removed}
-use Rattle.records.specs.declared.Record.the-variants.{Comparisons, OnlyDeclared, Item}
-use Rattle.records.specs.declared.Record.the-variants.{CompareTwo, CompareConstant, End}
+use Rattle.records.specs.declared.Record.the-variants.{OfBook, OfQuery}
+use Rattle.records.specs.declared.QueryRecord.the-variants.{Item, CompareTwo, CompareConstant, End}
+use Rattle.records.proofs.Records.{of-query-kind}
 use Rattle.records.proofs.Checks.{EachNumber, first-number, Agree, ended, next, first-agrees, first-unique, same-always}
 use Rattle.records.proofs.Checks.{same-true, same-not, same-or}
 use Rattle.records.proofs.Checks.{same-lt, same-le, same-absent}
@@ -32,25 +32,18 @@ use Rattle.query.specs.Reading.{queryRules}
 agrees : (s : Scheme) (items comparisons : ℕ) (r : Record)
     → Agree (checks s items comparisons r) (conditions s items comparisons r)
 unfolding checks conditions
-agrees s items comparisons (Attribute id kind) = next same-always ended
-agrees s items comparisons (Object number set) = next same-always ended
-agrees s items comparisons (Dependency left right) = next same-always ended
-agrees s items comparisons (Row object c0 c1 c2 c3 c4 c5) = next same-always ended
-agrees s items comparisons (Declared set) = next same-always ended
-agrees s items comparisons (Removed set) = next same-always ended
-agrees s items comparisons (Comparisons names lengths angles dates) = next same-always ended
-agrees s items comparisons OnlyDeclared = next same-always ended
-agrees s items comparisons (Item v a) =
+agrees s items comparisons (OfBook r) = next same-always ended
+agrees s items comparisons (OfQuery (Item v a)) =
     next (same-le _ _) (next (same-or (same-lt _ _) (same-lt _ _)) (next (same-absent _ _) ended))
-agrees s items comparisons (CompareTwo v a operator v2 a2) =
+agrees s items comparisons (OfQuery (CompareTwo v a operator v2 a2)) =
     next (same-le _ _)
     (next (same-or (same-lt _ _) (same-or (same-lt _ _) (same-or (same-lt _ _) (same-or (same-lt _ _) (same-lt _ _)))))
     (next (same-or (same-absent _ _) (same-absent _ _)) (next (same-not _) ended)))
-agrees s items comparisons (CompareConstant v a operator cell) =
+agrees s items comparisons (OfQuery (CompareConstant v a operator cell)) =
     next (same-le _ _)
     (next (same-or (same-lt _ _) (same-or (same-lt _ _) (same-lt _ _)))
     (next (same-absent _ _) (next (same-not _) (next (same-not _) (next (same-true _) ended)))))
-agrees s items comparisons End = ended
+agrees s items comparisons (OfQuery End) = ended
 
 -- ---- the first
 
@@ -76,23 +69,18 @@ pub data FaultNumber : ℕ → Type 0 where
 
 numbered : (s : Scheme) (items comparisons : ℕ) (r : Record) → EachNumber FaultNumber (conditions s items comparisons r)
 unfolding EachNumber conditions
-numbered s items comparisons (Attribute id kind) = (two, tt)
-numbered s items comparisons (Object number set) = (two, tt)
-numbered s items comparisons (Dependency left right) = (two, tt)
-numbered s items comparisons (Row object c0 c1 c2 c3 c4 c5) = (two, tt)
-numbered s items comparisons (Declared set) = (two, tt)
-numbered s items comparisons (Removed set) = (two, tt)
-numbered s items comparisons (Comparisons names lengths angles dates) = (two, tt)
-numbered s items comparisons OnlyDeclared = (two, tt)
-numbered s items comparisons (Item v a) = (four, (five, (seven, tt)))
-numbered s items comparisons (CompareTwo v a operator v2 a2) = (four, (five, (seven, (eleven, tt))))
-numbered s items comparisons (CompareConstant v a operator cell) = (four, (five, (seven, (eleven, (five, (five, tt))))))
-numbered s items comparisons End = tt
+numbered s items comparisons (OfBook r) = (two, tt)
+numbered s items comparisons (OfQuery (Item v a)) = (four, (five, (seven, tt)))
+numbered s items comparisons (OfQuery (CompareTwo v a operator v2 a2)) = (four, (five, (seven, (eleven, tt))))
+numbered s items comparisons (OfQuery (CompareConstant v a operator cell)) =
+    (four, (five, (seven, (eleven, (five, (five, tt))))))
+numbered s items comparisons (OfQuery End) = tt
 
 pub fault-number : (s : Scheme) (items comparisons : ℕ) (r : Record) → (faultOf s items comparisons r ≡ 0 → ⊥)
     → FaultNumber (faultOf s items comparisons r)
 fault-number s items comparisons r d =
-    first-number FaultNumber (conditions s items comparisons r) (faultOf s items comparisons r) (numbered s items comparisons r)
+    first-number FaultNumber (conditions s items comparisons r) (faultOf s items comparisons r)
+    (numbered s items comparisons r)
     (fault-first s items comparisons r) d
 
 pub fault-splits : {n : ℕ} → FaultNumber n → ((2 ≤ n) × (n ≤ 7)) ⊎ (n ≡ 11)
@@ -113,19 +101,9 @@ no-kind-no-query k e = ap (λ (w : ℕ). eqb w 2) (eqb-true (whose k) 0 (not-fal
 -- a record of another kind has the fault 2
 fault-not-of-query : (s : Scheme) (items comparisons : ℕ) (r : Record) → ofQuery (kindOf r) ≡ false
     → faultOf s items comparisons r ≡ 2
-unfolding kindOf ofQuery whose kinds faultOf checks firstOf
-fault-not-of-query s items comparisons (Attribute id kind) e = refl
-fault-not-of-query s items comparisons (Object number set) e = refl
-fault-not-of-query s items comparisons (Dependency left right) e = refl
-fault-not-of-query s items comparisons (Row object c0 c1 c2 c3 c4 c5) e = refl
-fault-not-of-query s items comparisons (Declared set) e = refl
-fault-not-of-query s items comparisons (Removed set) e = refl
-fault-not-of-query s items comparisons (Comparisons names lengths angles dates) e = refl
-fault-not-of-query s items comparisons OnlyDeclared e = refl
-fault-not-of-query s items comparisons (Item v a) e = absurd (yes-no refl e)
-fault-not-of-query s items comparisons (CompareTwo v a operator v2 a2) e = absurd (yes-no refl e)
-fault-not-of-query s items comparisons (CompareConstant v a operator cell) e = absurd (yes-no refl e)
-fault-not-of-query s items comparisons End e = absurd (yes-no refl e)
+unfolding faultOf checks firstOf
+fault-not-of-query s items comparisons (OfBook r) e = refl
+fault-not-of-query s items comparisons (OfQuery r) e = absurd (yes-no (of-query-kind r) e)
 
 pub query-sound : (s : Scheme) → Sound (queryRules s)
 query-sound s = record {

@@ -12,11 +12,13 @@ use Rattle.values.specs.Table.{builtIn, allows}
 use Rattle.reduction.specs.Kept.{union}
 use Rattle.records.specs.Checks.{firstOf}
 use Rattle.records.specs.Fields.{bytes, value, field}
-use Rattle.records.specs.Records.{kinds, whose, isKind, ofQuery, bodyLength, bytesOf, bytesOfAll}
+use Rattle.records.specs.Records.{kinds, whose, isKind, ofQuery, bodyLength, kindOf, bytesOf, bytesOfAll}
+use Rattle.records.specs.Records.{bytesOfBook, bytesOfQuery}
 use Rattle.records.specs.Reader.{bodies, recordOf, readFront, readAt}
 use Rattle.records.specs.Walking.{shortNumber, walkFrom, walk}
-use Rattle.records.specs.declared.Record.{Record}
-use Rattle.records.specs.declared.Record.the-variants.{Attribute, Item, CompareTwo, CompareConstant, End}
+use Rattle.records.specs.declared.QueryRecord.{QueryRecord}
+use Rattle.records.specs.declared.BookRecord.the-variants.{Attribute}
+use Rattle.records.specs.declared.QueryRecord.the-variants.{Item, CompareTwo, CompareConstant, End}
 use Rattle.scheme.specs.declared.Scheme.{Scheme}
 use Rattle.scheme.specs.Growing.{familyOf, attributesOf}
 use Rattle.query.specs.declared.QueryItem.{QueryItem}
@@ -40,53 +42,37 @@ book = record {
   left = replicate 64 0;
   right = replicate 64 0;
   dependencies = 0;
-  declared = replicate 8 0;
-  declarations = 0;
-  removed = replicate 8 0;
-  removals = 0;
-  only = false;
-  table = builtIn;
-  tables = 0;
+  maximal = record {
+    declared = replicate 8 0;
+    declarations = 0;
+    removed = replicate 8 0;
+    removals = 0;
+    only = false;
+  };
+  table = record { masks = builtIn; given = 0 };
 }
 
--- the same with a comparison table of its own: equal and unequal within each kind but dates, all six within dates and
--- between lengths and dates
+-- the same with a comparison table of its own
+unfoldable pub comparing : List ℕ → Scheme
+comparing masks = record {
+  kinds = book .kinds;
+  attributes = book .attributes;
+  sets = book .sets;
+  objects = book .objects;
+  left = book .left;
+  right = book .right;
+  dependencies = book .dependencies;
+  maximal = book .maximal;
+  table = record { masks = masks; given = 1 };
+}
+
+-- one with equal and unequal within each kind but dates, all six within dates and between lengths and dates; one that
+-- has less one way only: lengths less than dates, and so dates greater than lengths
 unfoldable pub ofClub : Scheme
-ofClub = record {
-  kinds = book .kinds;
-  attributes = book .attributes;
-  sets = book .sets;
-  objects = book .objects;
-  left = book .left;
-  right = book .right;
-  dependencies = book .dependencies;
-  declared = book .declared;
-  declarations = book .declarations;
-  removed = book .removed;
-  removals = book .removals;
-  only = book .only;
-  table = 3 ∷ 0 ∷ 0 ∷ 0 ∷ 0 ∷ 3 ∷ 0 ∷ 63 ∷ 0 ∷ 0 ∷ 3 ∷ 0 ∷ 0 ∷ 63 ∷ 0 ∷ 63 ∷ [];
-  tables = 1;
-}
+ofClub = comparing (3 ∷ 0 ∷ 0 ∷ 0 ∷ 0 ∷ 3 ∷ 0 ∷ 63 ∷ 0 ∷ 0 ∷ 3 ∷ 0 ∷ 0 ∷ 63 ∷ 0 ∷ 63 ∷ [])
 
--- the same with a table that has less one way only: lengths less than dates, and so dates greater than lengths
 unfoldable pub oneWay : Scheme
-oneWay = record {
-  kinds = book .kinds;
-  attributes = book .attributes;
-  sets = book .sets;
-  objects = book .objects;
-  left = book .left;
-  right = book .right;
-  dependencies = book .dependencies;
-  declared = book .declared;
-  declarations = book .declarations;
-  removed = book .removed;
-  removals = book .removals;
-  only = book .only;
-  table = 3 ∷ 0 ∷ 0 ∷ 0 ∷ 0 ∷ 63 ∷ 0 ∷ 4 ∷ 0 ∷ 0 ∷ 3 ∷ 0 ∷ 0 ∷ 16 ∷ 0 ∷ 63 ∷ [];
-  tables = 1;
-}
+oneWay = comparing (3 ∷ 0 ∷ 0 ∷ 0 ∷ 0 ∷ 63 ∷ 0 ∷ 4 ∷ 0 ∷ 0 ∷ 3 ∷ 0 ∷ 0 ∷ 16 ∷ 0 ∷ 63 ∷ [])
 
 -- its maximal objects: one of objects 0 and 1, one of object 2
 unfoldable pub maximals : List ℕ
@@ -94,22 +80,22 @@ maximals = 3 ∷ 4 ∷ []
 
 -- ---- a good query: items, both kinds of comparison, and two variables
 
-unfoldable pub good : List Record
+unfoldable pub good : List QueryRecord
 good = Item 0 2 ∷ CompareTwo 0 1 3 1 4 ∷ Item 1 3 ∷ CompareConstant 1 3 5 12345 ∷ Item 0 0 ∷ []
 
 -- ---- as many records as the bounds allow: comparisons, eight of each kind, and eight items
 
-unfoldable pub eightOfTwo : List Record
+unfoldable pub eightOfTwo : List QueryRecord
 eightOfTwo =
     CompareTwo 0 0 0 0 0 ∷ CompareTwo 0 0 0 0 0 ∷ CompareTwo 0 0 0 0 0 ∷ CompareTwo 0 0 0 0 0
     ∷ CompareTwo 0 0 0 0 0 ∷ CompareTwo 0 0 0 0 0 ∷ CompareTwo 0 0 0 0 0 ∷ CompareTwo 0 0 0 0 0 ∷ []
 
-unfoldable pub eightWithConstant : List Record
+unfoldable pub eightWithConstant : List QueryRecord
 eightWithConstant =
     CompareConstant 0 0 0 9 ∷ CompareConstant 0 0 0 9 ∷ CompareConstant 0 0 0 9 ∷ CompareConstant 0 0 0 9
     ∷ CompareConstant 0 0 0 9 ∷ CompareConstant 0 0 0 9 ∷ CompareConstant 0 0 0 9 ∷ CompareConstant 0 0 0 9 ∷ []
 
-unfoldable pub eightItems : List Record
+unfoldable pub eightItems : List QueryRecord
 eightItems = Item 0 0 ∷ Item 0 1 ∷ Item 0 2 ∷ Item 1 3 ∷ Item 1 4 ∷ Item 2 0 ∷ Item 3 0 ∷ Item 0 0 ∷ []
 
 -- ---- results
@@ -122,18 +108,18 @@ unfoldable pub result : List ℕ → List ℕ
 result b = resultOf (queryOf (read book maximals b))
 
 -- of records, with kind 10 behind them
-abbrev pub query : List Record → List ℕ
-query rs = result (bytesOfAll (rs ++ End ∷ []))
+abbrev pub query : List QueryRecord → List ℕ
+query rs = result (bytesOfQuery (rs ++ End ∷ []))
 
 -- the same over the book with a comparison table of its own
-abbrev pub clubQuery : List Record → List ℕ
-clubQuery rs = resultOf (queryOf (read ofClub maximals (bytesOfAll (rs ++ End ∷ []))))
+abbrev pub clubQuery : List QueryRecord → List ℕ
+clubQuery rs = resultOf (queryOf (read ofClub maximals (bytesOfQuery (rs ++ End ∷ []))))
 
-abbrev pub oneWayQuery : List Record → List ℕ
-oneWayQuery rs = resultOf (queryOf (read oneWay maximals (bytesOfAll (rs ++ End ∷ []))))
+abbrev pub oneWayQuery : List QueryRecord → List ℕ
+oneWayQuery rs = resultOf (queryOf (read oneWay maximals (bytesOfQuery (rs ++ End ∷ []))))
 
-abbrev pub unendedQuery : List Record → List ℕ
-unendedQuery rs = result (bytesOfAll rs)
+abbrev pub unendedQuery : List QueryRecord → List ℕ
+unendedQuery rs = result (bytesOfQuery rs)
 
 unfoldable pub fieldsOf : Comparison → List ℕ
 fieldsOf c =
@@ -148,8 +134,8 @@ askedBy q =
     ∷ q .attributes
     ∷ map fieldsOf (take (q .compared + 1) (q .comparisons))
 
-unfoldable pub asks : List Record → List (List ℕ)
-asks rs = askedBy (queryOf (read book maximals (bytesOfAll rs)) .asked)
+unfoldable pub asks : List QueryRecord → List (List ℕ)
+asks rs = askedBy (queryOf (read book maximals (bytesOfQuery rs)) .asked)
 
 -- ---- the trials
 
@@ -176,7 +162,8 @@ trials =
           ∷ (0 ∷ 0 ∷ 0 ∷ 0 ∷ 0 ∷ 0 ∷ 0 ∷ []) ∷ [];
     }
     -- "a query ends at its first kind 10, and bytes after that aren't read"
-    ∷ answers (unendedQuery (Item 0 0 ∷ End ∷ Attribute 5 0 ∷ Item 4 31 ∷ [])) 4
+    ∷ answers (result
+    (bytesOfQuery (Item 0 0 ∷ End ∷ []) ++ bytesOfBook (Attribute 5 0 ∷ []) ++ bytesOfQuery (Item 4 31 ∷ []))) 4
     ∷ answers (result (7 ∷ 3 ∷ 2 ∷ 10 ∷ 255 ∷ 7 ∷ [])) 4
     -- "Only kind 10: 10."
     ∷ refuses (query []) 10
@@ -188,7 +175,7 @@ trials =
     ∷ refuses (query (Item 3 1 ∷ Item 3 3 ∷ [])) 12
     ∷ answers (query (Item 0 1 ∷ Item 1 3 ∷ [])) 7
     -- "No objects: an item on a declared attribute is 12.": there is no maximal object then
-    ∷ refuses (resultOf (queryOf (read book [] (bytesOfAll (Item 0 0 ∷ End ∷ []))))) 12
+    ∷ refuses (resultOf (queryOf (read book [] (bytesOfQuery (Item 0 0 ∷ End ∷ []))))) 12
     -- a variable named only in comparisons
     ∷ refuses (query (Item 0 0 ∷ CompareTwo 1 1 2 1 4 ∷ [])) 12
     ∷ refuses (query (Item 0 0 ∷ CompareTwo 0 1 2 0 4 ∷ [])) 12
@@ -200,7 +187,7 @@ trials =
     ∷ refuses (unendedQuery good) 3
     ∷ refuses (result []) 3
     -- "kind not allowed 2"
-    ∷ refuses (query (Attribute 5 0 ∷ [])) 2
+    ∷ refuses (result (bytesOfBook (Attribute 5 0 ∷ []) ++ bytesOfQuery (End ∷ []))) 2
     ∷ refuses (result (7 ∷ 0 ∷ 0 ∷ 1 ∷ [])) 2
     ∷ refuses (result (7 ∷ 0 ∷ 0 ∷ 6 ∷ [])) 2
     ∷ refuses (result (11 ∷ 10 ∷ [])) 2
@@ -264,12 +251,14 @@ trials =
     ∷ refuses (query (eightOfTwo ++ eightWithConstant ++ CompareTwo 4 0 0 0 0 ∷ [])) 4
     ∷ refuses (query (eightOfTwo ++ eightWithConstant ++ CompareConstant 4 0 0 0 ∷ [])) 4
     -- "the earliest faulty record"
-    ∷ refuses (query (Item 0 31 ∷ Attribute 5 0 ∷ [])) 7
+    ∷ refuses (result (bytesOfQuery (Item 0 31 ∷ []) ++ bytesOfBook (Attribute 5 0 ∷ []) ++ bytesOfQuery (End ∷ []))) 7
     ∷ []
 
 pub trials-hold : map (λ t. t .gives) trials ≡ map (λ t. t .says) trials
-unfolding trials book ofClub oneWay maximals good eightOfTwo eightWithConstant eightItems resultOf result fieldsOf
+unfolding trials book comparing ofClub oneWay maximals good eightOfTwo eightWithConstant eightItems resultOf result
+    fieldsOf
     askedBy asks flatMap queryOf read atEnd wholeNumber someUnconnected unconnected isNil containing walkQuery isEnd
+    kindOf
     faultOf checks ofQuery askedOf filled attributesNamed naming namesOf nameOf comparisonsOf comparisonOf itemsOf
     itemOf shortNumber walkFrom walk firstOf readAt readFront recordOf bodies bytesOfAll bytesOf bodyLength isKind whose
     kinds field value bytes attributesOf familyOf union allows builtIn missing inRange members isEmpty single _∪_ within

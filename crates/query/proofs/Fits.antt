@@ -14,9 +14,8 @@ use Rattle.sets.proofs.Tests.{yes-no}
 use Rattle.records.specs.Checks.{firstOf}
 use Rattle.records.specs.Walking as Walking
 use Rattle.records.specs.declared.Record.{Record}
-use Rattle.records.specs.declared.Record.the-variants.{Attribute, Object, Dependency, Row, Declared, Removed}
-use Rattle.records.specs.declared.Record.the-variants.{Comparisons, OnlyDeclared, Item}
-use Rattle.records.specs.declared.Record.the-variants.{CompareTwo, CompareConstant, End}
+use Rattle.records.specs.declared.Record.the-variants.{OfBook, OfQuery}
+use Rattle.records.specs.declared.QueryRecord.the-variants.{Item, CompareTwo, CompareConstant, End}
 use Rattle.records.proofs.Checks.{none-first}
 use Rattle.scheme.specs.declared.Scheme.{Scheme}
 use Rattle.query.specs.Asking.{itemOf, itemsOf, comparisonOf, comparisonsOf}
@@ -49,15 +48,8 @@ name-in-range n = record { variable = n .variable; attribute = n .attribute }
 fitting : (s : Scheme) (items comparisons : ℕ) (r : Record) → faultOf s items comparisons r ≡ 0
     → Fitting items comparisons r
 unfolding faultOf checks itemOf comparisonOf
-fitting s items comparisons (Attribute id kind) e = other-faulty e
-fitting s items comparisons (Object number set) e = other-faulty e
-fitting s items comparisons (Dependency from to) e = other-faulty e
-fitting s items comparisons (Row object c0 c1 c2 c3 c4 c5) e = other-faulty e
-fitting s items comparisons (Declared set) e = other-faulty e
-fitting s items comparisons (Removed set) e = other-faulty e
-fitting s items comparisons (Comparisons names lengths angles dates) e = other-faulty e
-fitting s items comparisons OnlyDeclared e = other-faulty e
-fitting s items comparisons (Item v a) e =
+fitting s items comparisons (OfBook r) e = other-faulty e
+fitting s items comparisons (OfQuery (Item v a)) e =
     let n = item-accepted s items comparisons v a e in
     record {
       itemsFit = λ h. omega (arith, n .room);
@@ -65,9 +57,9 @@ fitting s items comparisons (Item v a) e =
       namesFit = λ m. named m (name-in-range n);
     }
   where
-    named : {w b : ℕ} → Names w b (Item v a) → NameInRange v a → NameInRange w b
+    named : {w b : ℕ} → Names w b (OfQuery (Item v a)) → NameInRange v a → NameInRange w b
     named item n = n
-fitting s items comparisons (CompareTwo v a operator v2 a2) e =
+fitting s items comparisons (OfQuery (CompareTwo v a operator v2 a2)) e =
     let n = two-accepted s items comparisons v a operator v2 a2 e in
     record {
       itemsFit = λ h. omega arith;
@@ -75,11 +67,11 @@ fitting s items comparisons (CompareTwo v a operator v2 a2) e =
       namesFit = λ m. named m (name-in-range (n .0)) (name-in-range (n .1));
     }
   where
-    named : {w b : ℕ} → Names w b (CompareTwo v a operator v2 a2) → NameInRange v a → NameInRange v2 a2
+    named : {w b : ℕ} → Names w b (OfQuery (CompareTwo v a operator v2 a2)) → NameInRange v a → NameInRange v2 a2
         → NameInRange w b
     named left m n = m
     named right m n = n
-fitting s items comparisons (CompareConstant v a operator cell) e =
+fitting s items comparisons (OfQuery (CompareConstant v a operator cell)) e =
     let n = constant-accepted s items comparisons v a operator cell e in
     record {
       itemsFit = λ h. omega arith;
@@ -87,9 +79,9 @@ fitting s items comparisons (CompareConstant v a operator cell) e =
       namesFit = λ m. named m (name-in-range n);
     }
   where
-    named : {w b : ℕ} → Names w b (CompareConstant v a operator cell) → NameInRange v a → NameInRange w b
+    named : {w b : ℕ} → Names w b (OfQuery (CompareConstant v a operator cell)) → NameInRange v a → NameInRange w b
     named ofConstant n = n
-fitting s items comparisons End e = record {
+fitting s items comparisons (OfQuery End) e = record {
   itemsFit = λ h. omega arith;
   comparisonsFit = λ h. omega arith;
   namesFit = λ n. elim n [ ];

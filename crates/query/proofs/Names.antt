@@ -13,14 +13,16 @@ use borrow.Author.Tests.{eqb-true, eqb-false}
 use lib.Dec.{eqb}
 use lib.ListN.{length, getD, take}
 use Rattle.sets.specs.Sets.{_∈_, insert, single}
+use Rattle.sets.proofs.Tests.{yes-no}
 use Rattle.sets.proofs.Bits.{in-out}
 use Rattle.sets.proofs.Sets.{∪-left, ∪-cases, in-single, insert-in, zero-out}
 use Rattle.records.specs.Gathered.{Gathered, ended, taken, passedOver}
-use Rattle.records.specs.Records.{kindOf}
+use Rattle.records.specs.Records.{kinds, whose, ofBook, kindOf}
+use Rattle.records.proofs.Records.{of-book-kind}
 use Rattle.records.specs.declared.Record.{Record}
-use Rattle.records.specs.declared.Record.the-variants.{Attribute, Object, Dependency, Row, Declared, Removed}
-use Rattle.records.specs.declared.Record.the-variants.{Comparisons, OnlyDeclared, Item}
-use Rattle.records.specs.declared.Record.the-variants.{CompareTwo, CompareConstant, End}
+use Rattle.records.specs.declared.BookRecord.{BookRecord}
+use Rattle.records.specs.declared.Record.the-variants.{OfBook, OfQuery}
+use Rattle.records.specs.declared.QueryRecord.the-variants.{Item, CompareTwo, CompareConstant, End}
 use Rattle.query.specs.declared.QueryItem.{QueryItem}
 use Rattle.query.specs.declared.Comparison.{Comparison}
 use Rattle.query.specs.Asking.{pair, itemOf, itemsOf, ofTwo, comparisonOf, comparisonsOf, nameOf, namesOf}
@@ -35,27 +37,23 @@ no-item : (r : Record) → (kindOf r ≡ 7 → ⊥) → (i : QueryItem) → Says
 unfolding kindOf
 no-item r n i e = n (ap kindOf e)
 
+no-item-of-a-book : {r : BookRecord} {i : QueryItem} → SaysItem (OfBook r) i → ⊥
+unfolding kindOf ofBook whose kinds
+no-item-of-a-book {r} e = yes-no (of-book-kind r) (ap (λ (x : Record). ofBook (kindOf x)) e)
+
 pub items-gathered : (rs : List Record) → Gathered SaysItem rs (itemsOf rs)
 unfolding itemsOf itemOf kindOf
 items-gathered [] = ended
 items-gathered (r ∷ rs) = more r (items-gathered rs)
   where
     more : (r : Record) {xs : List QueryItem} → Gathered SaysItem rs xs → Gathered SaysItem (r ∷ rs) (itemOf r ++ xs)
-    more (Attribute id kind) g = passedOver (no-item (Attribute id kind) (λ z. omega arith)) g
-    more (Object number set) g = passedOver (no-item (Object number set) (λ z. omega arith)) g
-    more (Dependency from to) g = passedOver (no-item (Dependency from to) (λ z. omega arith)) g
-    more (Row object c0 c1 c2 c3 c4 c5) g = passedOver (no-item (Row object c0 c1 c2 c3 c4 c5) (λ z. omega arith)) g
-    more (Declared set) g = passedOver (no-item (Declared set) (λ z. omega arith)) g
-    more (Removed set) g = passedOver (no-item (Removed set) (λ z. omega arith)) g
-    more (Comparisons names lengths angles dates) g =
-        passedOver (no-item (Comparisons names lengths angles dates) (λ z. omega arith)) g
-    more OnlyDeclared g = passedOver (no-item OnlyDeclared (λ z. omega arith)) g
-    more (Item v a) g = taken refl g
-    more (CompareTwo v a operator v2 a2) g =
-        passedOver (no-item (CompareTwo v a operator v2 a2) (λ z. omega arith)) g
-    more (CompareConstant v a operator cell) g =
-        passedOver (no-item (CompareConstant v a operator cell) (λ z. omega arith)) g
-    more End g = passedOver (no-item End (λ z. omega arith)) g
+    more (OfBook r) g = passedOver (λ i e. no-item-of-a-book e) g
+    more (OfQuery (Item v a)) g = taken refl g
+    more (OfQuery (CompareTwo v a operator v2 a2)) g =
+        passedOver (no-item (OfQuery (CompareTwo v a operator v2 a2)) (λ z. omega arith)) g
+    more (OfQuery (CompareConstant v a operator cell)) g =
+        passedOver (no-item (OfQuery (CompareConstant v a operator cell)) (λ z. omega arith)) g
+    more (OfQuery End) g = passedOver (no-item (OfQuery End) (λ z. omega arith)) g
 
 -- ---- comparisons
 
@@ -65,6 +63,9 @@ unfolding kindOf
 no-comparison _ n c two = n (omega arith) (omega arith)
 no-comparison _ n c constant = n (omega arith) (omega arith)
 
+no-comparison-of-a-book : {r : BookRecord} (c : Comparison) → SaysComparison (OfBook r) c → ⊥
+no-comparison-of-a-book c s = elim s [ ]
+
 pub comparisons-gathered : (rs : List Record) → Gathered SaysComparison rs (comparisonsOf rs)
 unfolding comparisonsOf comparisonOf kindOf
 comparisons-gathered [] = ended
@@ -72,20 +73,11 @@ comparisons-gathered (r ∷ rs) = more r (comparisons-gathered rs)
   where
     more : (r : Record) {xs : List Comparison} → Gathered SaysComparison rs xs
         → Gathered SaysComparison (r ∷ rs) (comparisonOf r ++ xs)
-    more (Attribute id kind) g = passedOver (no-comparison (Attribute id kind) (λ l u. omega arith)) g
-    more (Object number set) g = passedOver (no-comparison (Object number set) (λ l u. omega arith)) g
-    more (Dependency from to) g = passedOver (no-comparison (Dependency from to) (λ l u. omega arith)) g
-    more (Row object c0 c1 c2 c3 c4 c5) g =
-        passedOver (no-comparison (Row object c0 c1 c2 c3 c4 c5) (λ l u. omega arith)) g
-    more (Declared set) g = passedOver (no-comparison (Declared set) (λ l u. omega arith)) g
-    more (Removed set) g = passedOver (no-comparison (Removed set) (λ l u. omega arith)) g
-    more (Comparisons names lengths angles dates) g =
-        passedOver (no-comparison (Comparisons names lengths angles dates) (λ l u. omega arith)) g
-    more OnlyDeclared g = passedOver (no-comparison OnlyDeclared (λ l u. omega arith)) g
-    more (Item v a) g = passedOver (no-comparison (Item v a) (λ l u. omega arith)) g
-    more (CompareTwo v a operator v2 a2) g = taken two g
-    more (CompareConstant v a operator cell) g = taken constant g
-    more End g = passedOver (no-comparison End (λ l u. omega arith)) g
+    more (OfBook r) g = passedOver no-comparison-of-a-book g
+    more (OfQuery (Item v a)) g = passedOver (no-comparison (OfQuery (Item v a)) (λ l u. omega arith)) g
+    more (OfQuery (CompareTwo v a operator v2 a2)) g = taken two g
+    more (OfQuery (CompareConstant v a operator cell)) g = taken constant g
+    more (OfQuery End) g = passedOver (no-comparison (OfQuery End) (λ l u. omega arith)) g
 
 -- ---- names
 
@@ -105,22 +97,15 @@ same-name {v} {a} {w} {b} P e p =
 
 in-name : {v a : ℕ} (r : Record) → List·Memᴰ (pair v a) (nameOf r) → Names v a r
 unfolding nameOf
-in-name (Attribute id kind) m = absurd (List·Memᴰ·not-nil m)
-in-name (Object number set) m = absurd (List·Memᴰ·not-nil m)
-in-name (Dependency from to) m = absurd (List·Memᴰ·not-nil m)
-in-name (Row object c0 c1 c2 c3 c4 c5) m = absurd (List·Memᴰ·not-nil m)
-in-name (Declared set) m = absurd (List·Memᴰ·not-nil m)
-in-name (Removed set) m = absurd (List·Memᴰ·not-nil m)
-in-name (Comparisons names lengths angles dates) m = absurd (List·Memᴰ·not-nil m)
-in-name OnlyDeclared m = absurd (List·Memᴰ·not-nil m)
-in-name (Item w b) m = same-name (λ x y. Names x y (Item w b)) (List·Memᴰ·eq-of-singleton m) item
-in-name (CompareTwo w b operator w2 b2) m =
-    ⊎-elim (λ e. same-name (λ x y. Names x y (CompareTwo w b operator w2 b2)) e left)
-    (λ n. same-name (λ x y. Names x y (CompareTwo w b operator w2 b2)) (List·Memᴰ·eq-of-singleton n) right)
+in-name (OfBook r) m = absurd (List·Memᴰ·not-nil m)
+in-name (OfQuery (Item w b)) m = same-name (λ x y. Names x y (OfQuery (Item w b))) (List·Memᴰ·eq-of-singleton m) item
+in-name (OfQuery (CompareTwo w b operator w2 b2)) m =
+    ⊎-elim (λ e. same-name (λ x y. Names x y (OfQuery (CompareTwo w b operator w2 b2))) e left)
+    (λ n. same-name (λ x y. Names x y (OfQuery (CompareTwo w b operator w2 b2))) (List·Memᴰ·eq-of-singleton n) right)
     (List·Memᴰ·cases-cons m)
-in-name (CompareConstant w b operator cell) m =
-    same-name (λ x y. Names x y (CompareConstant w b operator cell)) (List·Memᴰ·eq-of-singleton m) ofConstant
-in-name End m = absurd (List·Memᴰ·not-nil m)
+in-name (OfQuery (CompareConstant w b operator cell)) m =
+    same-name (λ x y. Names x y (OfQuery (CompareConstant w b operator cell))) (List·Memᴰ·eq-of-singleton m) ofConstant
+in-name (OfQuery End) m = absurd (List·Memᴰ·not-nil m)
 
 -- so do records
 names-in : {v a : ℕ} {r : Record} {rs : List Record} → List·Memᴰ r rs → Names v a r

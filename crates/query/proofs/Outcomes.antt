@@ -12,11 +12,13 @@ use lib.Dec.{eqb}
 use lib.ListN.{length}
 use Rattle.sets.proofs.Numbers.{eq-or-ne, lt-or-le}
 use Rattle.records.specs.Checks.{firstOf}
+use Rattle.records.specs.Records.{kindOf}
 use Rattle.records.specs.Reader.{readAt}
 use Rattle.records.specs.Walking as Walking
 use Rattle.records.specs.Walking.{Stop, StopsAt}
 use Rattle.records.specs.declared.Record.{Record}
-use Rattle.records.specs.declared.Record.the-variants.{End}
+use Rattle.records.specs.declared.Record.the-variants.{OfQuery}
+use Rattle.records.specs.declared.QueryRecord.the-variants.{End}
 use Rattle.records.specs.declared.Reading.the-variants.{Found}
 use Rattle.records.proofs.Walking.{walk-stops, stops-walk}
 use Rattle.scheme.specs.declared.Scheme.{Scheme}
@@ -73,21 +75,22 @@ pub end-fault : (n : ℕ) (rs : List Record) (at : ℕ) → (n ≡ 0 → ⊥) �
 unfolding atEnd
 end-fault n rs at d = rw (atEnd, ne-eqb n 0 d)
 
-pub end-good : (n : ℕ) (rs : List Record) (at : ℕ) → n ≡ 0 → atEnd n rs at ≡ record { number = 0; records = rs; read = at }
+pub end-good : (n : ℕ) (rs : List Record) (at : ℕ) → n ≡ 0 → atEnd n rs at
+    ≡ record { number = 0; records = rs; read = at }
 unfolding atEnd
 end-good n rs at z = rw (atEnd, eq-eqb n 0 z)
 
 -- where a walk stops, reading stops
 module _ (s : Scheme) (Ms b : List ℕ) where
-  at-end-stops : {rs : List Record} {at next : ℕ} → Accepted s b rs at → readAt b at ≡ Found End next
-      → StopsWith s Ms b (atEnd (wholeNumber s Ms (askedOf (rs ++ End ∷ []))) (rs ++ End ∷ []) next)
+  at-end-stops : {rs : List Record} {at next : ℕ} → Accepted s b rs at → readAt b at ≡ Found (OfQuery End) next
+      → StopsWith s Ms b (atEnd (wholeNumber s Ms (askedOf (rs ++ OfQuery End ∷ []))) (rs ++ OfQuery End ∷ []) next)
   at-end-stops {rs} {at} {next} a e =
-      let n = wholeNumber s Ms (askedOf (rs ++ End ∷ [])) in
+      let n = wholeNumber s Ms (askedOf (rs ++ OfQuery End ∷ [])) in
       let w = whole-at-end s Ms a in
       ⊎-elim
-      (λ z. subst (StopsWith s Ms b) (sym (end-good n (rs ++ End ∷ []) next z))
+      (λ z. subst (StopsWith s Ms b) (sym (end-good n (rs ++ OfQuery End ∷ []) next z))
       (answered a e (subst (OfWhole s Ms rs) z w)))
-      (λ d. subst (StopsWith s Ms b) (sym (end-fault n (rs ++ End ∷ []) next d)) (refused a e w d))
+      (λ d. subst (StopsWith s Ms b) (sym (end-fault n (rs ++ OfQuery End ∷ []) next d)) (refused a e w d))
       (eq-or-ne n 0)
 
   walk-reading : (w : Stop (List Record)) → StopsAt (queryRules s) b [] w → StopsWith s Ms b (after s Ms w)
@@ -124,12 +127,13 @@ module _ (s : Scheme) (Ms b : List ℕ) where
   unfolding walkQuery
   walk-is t = ap (after s Ms) (stops-walk (queryRules s) (query-sound s) b [] t)
 
-  walk-at-end : {rs : List Record} {at next : ℕ} → Accepted s b rs at → readAt b at ≡ Found End next
-      → after s Ms (walkQuery s b) ≡ atEnd (wholeNumber s Ms (askedOf (rs ++ End ∷ []))) (rs ++ End ∷ []) next
-  unfolding faultOf checks firstOf isEnd
+  walk-at-end : {rs : List Record} {at next : ℕ} → Accepted s b rs at → readAt b at ≡ Found (OfQuery End) next
+      → after s Ms (walkQuery s b)
+      ≡ atEnd (wholeNumber s Ms (askedOf (rs ++ OfQuery End ∷ []))) (rs ++ OfQuery End ∷ []) next
+  unfolding faultOf checks firstOf isEnd kindOf
   walk-at-end {rs} {at} {next} a e =
       walk-is (Walking.atLast (a .walked) e refl refl)
-      ∙ after-end s Ms (record { number = 0; state = rs ++ End ∷ []; at = next }) refl
+      ∙ after-end s Ms (record { number = 0; state = rs ++ OfQuery End ∷ []; at = next }) refl
 
   pub stops-read : {o : Outcome} → length b ≤ 65536 → StopsWith s Ms b o → read s Ms b ≡ o
   stops-read h w = read-within h ∙ by w
@@ -143,11 +147,12 @@ module _ (s : Scheme) (Ms b : List ℕ) where
           ∙ after-fault s Ms (record { number = 3; state = rs; at = at }) (λ z. absurd (omega arith))
       by (refused {rs} {at} {next} {n} a e w d) =
           walk-at-end a e
-          ∙ ap (λ (k : ℕ). atEnd k (rs ++ End ∷ []) next) (at-end-whole s Ms a w)
-          ∙ end-fault n (rs ++ End ∷ []) next d
+          ∙ ap (λ (k : ℕ). atEnd k (rs ++ OfQuery End ∷ []) next) (at-end-whole s Ms a w)
+          ∙ end-fault n (rs ++ OfQuery End ∷ []) next d
       by (answered {rs} {at} {next} a e w) =
           walk-at-end a e
-          ∙ end-good (wholeNumber s Ms (askedOf (rs ++ End ∷ []))) (rs ++ End ∷ []) next (at-end-whole s Ms a w)
+          ∙ end-good (wholeNumber s Ms (askedOf (rs ++ OfQuery End ∷ []))) (rs ++ OfQuery End ∷ []) next
+          (at-end-whole s Ms a w)
 
 -- ---- where its number comes from
 
@@ -189,11 +194,11 @@ module _ (s : Scheme) (Ms b : List ℕ) where
 abbrev OfRecord : ℕ → Type 0
 OfRecord n = (n ≡ 2) ⊎ ((n ≡ 4) ⊎ ((n ≡ 5) ⊎ ((n ≡ 7) ⊎ (n ≡ 11))))
 
-abbrev OfQuery : ℕ → Type 0
-OfQuery n = (n ≡ 0) ⊎ ((n ≡ 10) ⊎ (n ≡ 12))
+abbrev OfWholeQuery : ℕ → Type 0
+OfWholeQuery n = (n ≡ 0) ⊎ ((n ≡ 10) ⊎ (n ≡ 12))
 
 -- a number of a whole query is none of a record
-not-of-query : {n : ℕ} → FaultNumber n → OfQuery n → ⊥
+not-of-query : {n : ℕ} → FaultNumber n → OfWholeQuery n → ⊥
 not-of-query f (inl z) = no-zero f z
 not-of-query f (inr (inl z)) = ⊎-elim (λ p. absurd (omega arith)) (λ p. absurd (omega arith)) (fault-splits f)
 not-of-query f (inr (inr z)) = ⊎-elim (λ p. absurd (omega arith)) (λ p. absurd (omega arith)) (fault-splits f)
@@ -219,7 +224,7 @@ fault-not-one f z = ⊎-elim (λ p. absurd (omega arith)) (λ p. absurd (omega a
 pub record-not-one : {n : ℕ} → OfRecord n → n ≡ 1 → ⊥
 record-not-one c z = fault-not-one (of-record-fault c) z
 
-pub query-not-one : {n : ℕ} → OfQuery n → n ≡ 1 → ⊥
+pub query-not-one : {n : ℕ} → OfWholeQuery n → n ≡ 1 → ⊥
 query-not-one (inl c) z = absurd (omega arith)
 query-not-one (inr (inl c)) z = absurd (omega arith)
 query-not-one (inr (inr c)) z = absurd (omega arith)
@@ -236,7 +241,7 @@ fault-one-of five = inl (omega arith)
 fault-one-of seven = inr (inl refl)
 fault-one-of eleven = inr (inr (inr (inl refl)))
 
-query-one-of : {n : ℕ} → OfQuery n → OneOf n
+query-one-of : {n : ℕ} → OfWholeQuery n → OneOf n
 query-one-of (inl z) = inl (omega arith)
 query-one-of (inr (inl z)) = inr (inr (inl z))
 query-one-of (inr (inr z)) = inr (inr (inr (inr z)))
@@ -257,7 +262,7 @@ module _ (s : Scheme) (Ms b : List ℕ) where
     number-from e = subst (From s Ms b) e (stops-from s Ms b (read-stops s Ms b h))
 
     -- it is a fault's, or the whole query's
-    number-kinds : {n : ℕ} → read s Ms b .number ≡ n → FaultNumber n ⊎ OfQuery n
+    number-kinds : {n : ℕ} → read s Ms b .number ≡ n → FaultNumber n ⊎ OfWholeQuery n
     unfolding From
     number-kinds e =
         ⊎-elim (λ f. inl (faulty-record-number f))
@@ -279,7 +284,7 @@ module _ (s : Scheme) (Ms b : List ℕ) where
         (λ p. ⊎-elim (λ u. inr (u .1)) (λ w. absurd (not-of-query three (whole-numbers (w .whole)))) p)
         (number-from e)
 
-    pub number-of-query : {n : ℕ} → OfQuery n → read s Ms b .number ≡ n → Ended s Ms b n
+    pub number-of-query : {n : ℕ} → OfWholeQuery n → read s Ms b .number ≡ n → Ended s Ms b n
     unfolding From
     number-of-query c e =
         ⊎-elim (λ f. absurd (not-of-query (faulty-record-number f) c))

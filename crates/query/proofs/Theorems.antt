@@ -9,7 +9,8 @@ use lib.ListN.{length}
 use Rattle.sets.proofs.Numbers.{lt-or-le}
 use Rattle.records.specs.Checks.{First}
 use Rattle.records.specs.declared.Record.{Record}
-use Rattle.records.specs.declared.Record.the-variants.{End}
+use Rattle.records.specs.declared.Record.the-variants.{OfQuery}
+use Rattle.records.specs.declared.QueryRecord.the-variants.{End}
 use Rattle.scheme.specs.declared.Scheme.{Scheme}
 use Rattle.query.specs.Conditions.{conditions}
 use Rattle.query.specs.Accepting.{StopsWith}
@@ -63,7 +64,7 @@ accepted-fits s b = record {
   asks = λ rs at a. let w = accepted-records-fit s a in asked-whole rs (w .items) (w .comparisons);
   ends = λ rs at a.
       let w = accepted-records-fit s a in
-      asked-whole (rs ++ End ∷ []) (rw items-at-end (w .items)) (rw comparisons-at-end (w .comparisons));
+      asked-whole (rs ++ OfQuery End ∷ []) (rw items-at-end (w .items)) (rw comparisons-at-end (w .comparisons));
   named = λ rs at v a k n. let w = accepted-records-fit s k .named n in (w .variable, w .attribute);
 }
 

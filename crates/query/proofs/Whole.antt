@@ -16,7 +16,8 @@ use Rattle.sets.specs.Sets.{within, isEmpty}
 use Rattle.sets.proofs.Tests.{yes-no, and-yes, yes-and}
 use Rattle.sets.proofs.Sets.{yes-within, no-within, isEmpty-no, no-isEmpty}
 use Rattle.records.specs.declared.Record.{Record}
-use Rattle.records.specs.declared.Record.the-variants.{End}
+use Rattle.records.specs.declared.Record.the-variants.{OfQuery}
+use Rattle.records.specs.declared.QueryRecord.the-variants.{End}
 use Rattle.scheme.specs.declared.Scheme.{Scheme}
 use Rattle.scheme.specs.Growing.{attributesOf}
 use Rattle.scheme.specs.Statements.{LeavesOut, ended, kept, out}
@@ -181,13 +182,13 @@ whole-unique (good d c) (good d2 c2) = refl
 
 -- at the end of a query, behind accepted records
 module _ (s : Scheme) (Ms : List ℕ) {b : List ℕ} {rs : List Record} {at : ℕ} (a : Accepted s b rs at) where
-  same-at-end : wholeNumber s Ms (askedOf (rs ++ End ∷ [])) ≡ wholeNumber s Ms (askedOf rs)
+  same-at-end : wholeNumber s Ms (askedOf (rs ++ OfQuery End ∷ [])) ≡ wholeNumber s Ms (askedOf rs)
   same-at-end = ap (wholeNumber s Ms) (sym (asked-end rs))
 
-  pub whole-at-end : OfWhole s Ms rs (wholeNumber s Ms (askedOf (rs ++ End ∷ [])))
+  pub whole-at-end : OfWhole s Ms rs (wholeNumber s Ms (askedOf (rs ++ OfQuery End ∷ [])))
   whole-at-end = subst (OfWhole s Ms rs) (sym same-at-end) (whole-means s Ms rs (accepted-records-fit s a))
 
-  pub at-end-whole : {n : ℕ} → OfWhole s Ms rs n → wholeNumber s Ms (askedOf (rs ++ End ∷ [])) ≡ n
+  pub at-end-whole : {n : ℕ} → OfWhole s Ms rs n → wholeNumber s Ms (askedOf (rs ++ OfQuery End ∷ [])) ≡ n
   at-end-whole w = whole-unique whole-at-end w
 
 -- the numbers

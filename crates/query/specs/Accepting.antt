@@ -11,7 +11,8 @@ use Rattle.records.specs.Reader.{readAt}
 use Rattle.records.specs.Records.{ofQuery}
 use Rattle.records.specs.Walking as Walking
 use Rattle.records.specs.declared.Record.{Record}
-use Rattle.records.specs.declared.Record.the-variants.{Item, CompareTwo, CompareConstant, End}
+use Rattle.records.specs.declared.Record.the-variants.{OfQuery}
+use Rattle.records.specs.declared.QueryRecord.the-variants.{Item, CompareTwo, CompareConstant, End}
 use Rattle.records.specs.declared.Reading.the-variants.{Found}
 use Rattle.scheme.specs.declared.Scheme.{Scheme}
 use Rattle.scheme.specs.Growing.{attributesOf}
@@ -23,10 +24,10 @@ use Rattle.query.specs.Reading.{queryRules, Outcome, refusedWith}
 
 -- a record names attribute a with variable v: as an item, or on a side of a comparison
 pub data Names (v a : ℕ) : Record → Type 0 where
-  item : Names v a (Item v a)
-  left : {operator v2 a2 : ℕ} → Names v a (CompareTwo v a operator v2 a2)
-  right : {operator v1 a1 : ℕ} → Names v a (CompareTwo v1 a1 operator v a)
-  ofConstant : {operator cell : ℕ} → Names v a (CompareConstant v a operator cell)
+  item : Names v a (OfQuery (Item v a))
+  left : {operator v2 a2 : ℕ} → Names v a (OfQuery (CompareTwo v a operator v2 a2))
+  right : {operator v1 a1 : ℕ} → Names v a (OfQuery (CompareTwo v1 a1 operator v a))
+  ofConstant : {operator cell : ℕ} → Names v a (OfQuery (CompareConstant v a operator cell))
 
 -- one of the records does
 pub record NamedIn (rs : List Record) (v a : ℕ) : Type 0 where
@@ -72,8 +73,8 @@ pub data StopsWith (s : Scheme) (Ms b : List ℕ) : Outcome → Type 0 where
   -- "Bytes ending without kind 10: 3."
   unended : {rs : List Record} {at : ℕ} → Accepted s b rs at → length b ≤ at → StopsWith s Ms b (refusedWith 3 rs)
   -- at kind 10, with something wrong with the whole
-  refused : {rs : List Record} {at next n : ℕ} → Accepted s b rs at → readAt b at ≡ Found End next
-      → OfWhole s Ms rs n → (n ≡ 0 → ⊥) → StopsWith s Ms b (refusedWith n (rs ++ End ∷ []))
+  refused : {rs : List Record} {at next n : ℕ} → Accepted s b rs at → readAt b at ≡ Found (OfQuery End) next
+      → OfWhole s Ms rs n → (n ≡ 0 → ⊥) → StopsWith s Ms b (refusedWith n (rs ++ OfQuery End ∷ []))
   -- at kind 10, with nothing wrong: the bytes read end behind it
-  answered : {rs : List Record} {at next : ℕ} → Accepted s b rs at → readAt b at ≡ Found End next
-      → OfWhole s Ms rs 0 → StopsWith s Ms b (record { number = 0; records = rs ++ End ∷ []; read = next })
+  answered : {rs : List Record} {at next : ℕ} → Accepted s b rs at → readAt b at ≡ Found (OfQuery End) next
+      → OfWhole s Ms rs 0 → StopsWith s Ms b (record { number = 0; records = rs ++ OfQuery End ∷ []; read = next })

@@ -9,9 +9,8 @@ use lib.Dec.{eqb}
 use lib.ListN.{length, getD, set, replicate}
 use Rattle.sets.specs.Sets.{insert}
 use Rattle.records.specs.declared.Record.{Record}
-use Rattle.records.specs.declared.Record.the-variants.{Attribute, Object, Dependency, Row, Declared, Removed}
-use Rattle.records.specs.declared.Record.the-variants.{Comparisons, OnlyDeclared, Item}
-use Rattle.records.specs.declared.Record.the-variants.{CompareTwo, CompareConstant, End}
+use Rattle.records.specs.declared.Record.the-variants.{OfBook, OfQuery}
+use Rattle.records.specs.declared.QueryRecord.the-variants.{Item, CompareTwo, CompareConstant, End}
 use Rattle.query.specs.declared.QueryItem.{QueryItem}
 use Rattle.query.specs.declared.Comparison.{Comparison}
 use Rattle.query.specs.declared.Asked.{Asked}
@@ -24,18 +23,11 @@ pair v a = record { variable = v; attribute = a }
 
 -- "item to retrieve": what a record retrieves
 unfoldable pub itemOf : Record → List QueryItem
-itemOf (Attribute id kind) = []
-itemOf (Object number set) = []
-itemOf (Dependency left right) = []
-itemOf (Row object c0 c1 c2 c3 c4 c5) = []
-itemOf (Declared set) = []
-itemOf (Removed set) = []
-itemOf (Comparisons names lengths angles dates) = []
-itemOf OnlyDeclared = []
-itemOf (Item v a) = pair v a ∷ []
-itemOf (CompareTwo v a operator v2 a2) = []
-itemOf (CompareConstant v a operator cell) = []
-itemOf End = []
+itemOf (OfBook r) = []
+itemOf (OfQuery (Item v a)) = pair v a ∷ []
+itemOf (OfQuery (CompareTwo v a operator v2 a2)) = []
+itemOf (OfQuery (CompareConstant v a operator cell)) = []
+itemOf (OfQuery End) = []
 
 -- the items of records, in their order
 unfoldable pub itemsOf : List Record → List QueryItem
@@ -72,18 +64,11 @@ rightKind kinds c = elim (c .constant) [ true ↦ getD kinds (c .attribute) 0 | 
 
 -- "comparison of two", "comparison with a constant": what a record compares
 unfoldable pub comparisonOf : Record → List Comparison
-comparisonOf (Attribute id kind) = []
-comparisonOf (Object number set) = []
-comparisonOf (Dependency left right) = []
-comparisonOf (Row object c0 c1 c2 c3 c4 c5) = []
-comparisonOf (Declared set) = []
-comparisonOf (Removed set) = []
-comparisonOf (Comparisons names lengths angles dates) = []
-comparisonOf OnlyDeclared = []
-comparisonOf (Item v a) = []
-comparisonOf (CompareTwo v a operator v2 a2) = ofTwo v a operator v2 a2 ∷ []
-comparisonOf (CompareConstant v a operator cell) = withCell v a operator cell ∷ []
-comparisonOf End = []
+comparisonOf (OfBook r) = []
+comparisonOf (OfQuery (Item v a)) = []
+comparisonOf (OfQuery (CompareTwo v a operator v2 a2)) = ofTwo v a operator v2 a2 ∷ []
+comparisonOf (OfQuery (CompareConstant v a operator cell)) = withCell v a operator cell ∷ []
+comparisonOf (OfQuery End) = []
 
 -- the comparisons of records, of both kinds in one list, in their order
 unfoldable pub comparisonsOf : List Record → List Comparison
@@ -94,18 +79,11 @@ comparisonsOf (r ∷ rs) = comparisonOf r ++ comparisonsOf rs
 
 -- the attributes that a record names, each with its variable
 unfoldable pub nameOf : Record → List QueryItem
-nameOf (Attribute id kind) = []
-nameOf (Object number set) = []
-nameOf (Dependency left right) = []
-nameOf (Row object c0 c1 c2 c3 c4 c5) = []
-nameOf (Declared set) = []
-nameOf (Removed set) = []
-nameOf (Comparisons names lengths angles dates) = []
-nameOf OnlyDeclared = []
-nameOf (Item v a) = pair v a ∷ []
-nameOf (CompareTwo v a operator v2 a2) = pair v a ∷ pair v2 a2 ∷ []
-nameOf (CompareConstant v a operator cell) = pair v a ∷ []
-nameOf End = []
+nameOf (OfBook r) = []
+nameOf (OfQuery (Item v a)) = pair v a ∷ []
+nameOf (OfQuery (CompareTwo v a operator v2 a2)) = pair v a ∷ pair v2 a2 ∷ []
+nameOf (OfQuery (CompareConstant v a operator cell)) = pair v a ∷ []
+nameOf (OfQuery End) = []
 
 unfoldable pub namesOf : List Record → List QueryItem
 namesOf [] = []
@@ -181,15 +159,10 @@ withComparison q c = record {
 }
 
 unfoldable pub withRecord : Asked → Record → Asked
-withRecord q (Attribute id kind) = q
-withRecord q (Object number set) = q
-withRecord q (Dependency left right) = q
-withRecord q (Row object c0 c1 c2 c3 c4 c5) = q
-withRecord q (Declared set) = q
-withRecord q (Removed set) = q
-withRecord q (Comparisons names lengths angles dates) = q
-withRecord q OnlyDeclared = q
-withRecord q (Item v a) = withName (withItem q (pair v a)) v a
-withRecord q (CompareTwo v a operator v2 a2) = withName (withName (withComparison q (ofTwo v a operator v2 a2)) v a) v2 a2
-withRecord q (CompareConstant v a operator cell) = withName (withComparison q (withCell v a operator cell)) v a
-withRecord q End = q
+withRecord q (OfBook r) = q
+withRecord q (OfQuery (Item v a)) = withName (withItem q (pair v a)) v a
+withRecord q (OfQuery (CompareTwo v a operator v2 a2)) =
+    withName (withName (withComparison q (ofTwo v a operator v2 a2)) v a) v2 a2
+withRecord q (OfQuery (CompareConstant v a operator cell)) =
+    withName (withComparison q (withCell v a operator cell)) v a
+withRecord q (OfQuery End) = q

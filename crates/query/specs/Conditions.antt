@@ -11,9 +11,8 @@ use Rattle.values.specs.Values.{missing, inRange}
 use Rattle.values.specs.Table.{allows}
 use Rattle.records.specs.Checks.{Condition, _gives_}
 use Rattle.records.specs.declared.Record.{Record}
-use Rattle.records.specs.declared.Record.the-variants.{Attribute, Object, Dependency, Row, Declared, Removed}
-use Rattle.records.specs.declared.Record.the-variants.{Comparisons, OnlyDeclared, Item}
-use Rattle.records.specs.declared.Record.the-variants.{CompareTwo, CompareConstant, End}
+use Rattle.records.specs.declared.Record.the-variants.{OfBook, OfQuery}
+use Rattle.records.specs.declared.QueryRecord.the-variants.{Item, CompareTwo, CompareConstant, End}
 use Rattle.scheme.specs.declared.Scheme.{Scheme}
 use Rattle.query.specs.Faults.{kindIn}
 
@@ -22,31 +21,24 @@ use Rattle.query.specs.Faults.{kindIn}
 -- there 11 (one over 5 is 5; a constant has its attribute's kind); an angle constant over 35,999 is then 5": of value
 -- kinds 0 to 3 only angles have cells out of range; request 5: "A constant may not be missing (5, after 11)"
 unfoldable pub conditions : Scheme → ℕ → ℕ → Record → List Condition
-conditions s items comparisons (Attribute id kind) = (Unit {0} gives 2) ∷ []
-conditions s items comparisons (Object number set) = (Unit {0} gives 2) ∷ []
-conditions s items comparisons (Dependency left right) = (Unit {0} gives 2) ∷ []
-conditions s items comparisons (Row object c0 c1 c2 c3 c4 c5) = (Unit {0} gives 2) ∷ []
-conditions s items comparisons (Declared set) = (Unit {0} gives 2) ∷ []
-conditions s items comparisons (Removed set) = (Unit {0} gives 2) ∷ []
-conditions s items comparisons (Comparisons names lengths angles dates) = (Unit {0} gives 2) ∷ []
-conditions s items comparisons OnlyDeclared = (Unit {0} gives 2) ∷ []
-conditions s items comparisons (Item v a) =
+conditions s items comparisons (OfBook r) = (Unit {0} gives 2) ∷ []
+conditions s items comparisons (OfQuery (Item v a)) =
     (8 ≤ items gives 4)
     ∷ ((3 < v) ⊎ (31 < a) gives 5)
     ∷ (a ∉ s .attributes gives 7)
     ∷ []
-conditions s items comparisons (CompareTwo v a operator v2 a2) =
+conditions s items comparisons (OfQuery (CompareTwo v a operator v2 a2)) =
     (16 ≤ comparisons gives 4)
     ∷ ((3 < v) ⊎ ((31 < a) ⊎ ((5 < operator) ⊎ ((3 < v2) ⊎ (31 < a2)))) gives 5)
     ∷ ((a ∉ s .attributes) ⊎ (a2 ∉ s .attributes) gives 7)
-    ∷ (allows (s .table) operator (kindIn s a) (kindIn s a2) ≡ false gives 11)
+    ∷ (allows (s .table .masks) operator (kindIn s a) (kindIn s a2) ≡ false gives 11)
     ∷ []
-conditions s items comparisons (CompareConstant v a operator cell) =
+conditions s items comparisons (OfQuery (CompareConstant v a operator cell)) =
     (16 ≤ comparisons gives 4)
     ∷ ((3 < v) ⊎ ((31 < a) ⊎ (5 < operator)) gives 5)
     ∷ (a ∉ s .attributes gives 7)
-    ∷ (allows (s .table) operator (kindIn s a) (kindIn s a) ≡ false gives 11)
+    ∷ (allows (s .table .masks) operator (kindIn s a) (kindIn s a) ≡ false gives 11)
     ∷ (inRange (kindIn s a) cell ≡ false gives 5)
     ∷ (missing (kindIn s a) cell ≡ true gives 5)
     ∷ []
-conditions s items comparisons End = []
+conditions s items comparisons (OfQuery End) = []

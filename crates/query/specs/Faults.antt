@@ -12,9 +12,8 @@ use Rattle.values.specs.Values.{missing, inRange}
 use Rattle.values.specs.Table.{allows}
 use Rattle.records.specs.Checks.{firstOf}
 use Rattle.records.specs.declared.Record.{Record}
-use Rattle.records.specs.declared.Record.the-variants.{Attribute, Object, Dependency, Row, Declared, Removed}
-use Rattle.records.specs.declared.Record.the-variants.{Comparisons, OnlyDeclared, Item}
-use Rattle.records.specs.declared.Record.the-variants.{CompareTwo, CompareConstant, End}
+use Rattle.records.specs.declared.Record.the-variants.{OfBook, OfQuery}
+use Rattle.records.specs.declared.QueryRecord.the-variants.{Item, CompareTwo, CompareConstant, End}
 use Rattle.scheme.specs.declared.Scheme.{Scheme}
 
 -- the value kind of an attribute
@@ -25,34 +24,27 @@ kindIn s a = getD (s .kinds) a 0
 -- as above; an operator of 0 to 5 that the table doesn't allow there 11 (one over 5 is 5; a constant has its
 -- attribute's kind); an angle constant over 35,999 is then 5"; request 5: "A constant may not be missing (5, after 11)"
 unfoldable pub checks : Scheme → ℕ → ℕ → Record → List (Bool × ℕ)
-checks s items comparisons (Attribute id kind) = (true, 2) ∷ []
-checks s items comparisons (Object number set) = (true, 2) ∷ []
-checks s items comparisons (Dependency left right) = (true, 2) ∷ []
-checks s items comparisons (Row object c0 c1 c2 c3 c4 c5) = (true, 2) ∷ []
-checks s items comparisons (Declared set) = (true, 2) ∷ []
-checks s items comparisons (Removed set) = (true, 2) ∷ []
-checks s items comparisons (Comparisons names lengths angles dates) = (true, 2) ∷ []
-checks s items comparisons OnlyDeclared = (true, 2) ∷ []
-checks s items comparisons (Item v a) =
+checks s items comparisons (OfBook r) = (true, 2) ∷ []
+checks s items comparisons (OfQuery (Item v a)) =
     (leb 8 items, 4)
     ∷ (ltb 3 v || ltb 31 a, 5)
     ∷ (not (has (s .attributes) a), 7)
     ∷ []
-checks s items comparisons (CompareTwo v a operator v2 a2) =
+checks s items comparisons (OfQuery (CompareTwo v a operator v2 a2)) =
     (leb 16 comparisons, 4)
     ∷ (ltb 3 v || (ltb 31 a || (ltb 5 operator || (ltb 3 v2 || ltb 31 a2))), 5)
     ∷ (not (has (s .attributes) a) || not (has (s .attributes) a2), 7)
-    ∷ (not (allows (s .table) operator (kindIn s a) (kindIn s a2)), 11)
+    ∷ (not (allows (s .table .masks) operator (kindIn s a) (kindIn s a2)), 11)
     ∷ []
-checks s items comparisons (CompareConstant v a operator cell) =
+checks s items comparisons (OfQuery (CompareConstant v a operator cell)) =
     (leb 16 comparisons, 4)
     ∷ (ltb 3 v || (ltb 31 a || ltb 5 operator), 5)
     ∷ (not (has (s .attributes) a), 7)
-    ∷ (not (allows (s .table) operator (kindIn s a) (kindIn s a)), 11)
+    ∷ (not (allows (s .table .masks) operator (kindIn s a) (kindIn s a)), 11)
     ∷ (not (inRange (kindIn s a) cell), 5)
     ∷ (missing (kindIn s a) cell, 5)
     ∷ []
-checks s items comparisons End = []
+checks s items comparisons (OfQuery End) = []
 
 -- its fault, 0 where it has none
 unfoldable pub faultOf : Scheme → ℕ → ℕ → Record → ℕ

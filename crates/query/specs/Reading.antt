@@ -9,12 +9,9 @@ use Prim.Native.Nat.{ℕ}
 use lib.Dec.{eqb, ltb}
 use lib.ListN.{length}
 use Rattle.sets.specs.Sets.{within, isEmpty}
-use Rattle.records.specs.Records.{ofQuery}
+use Rattle.records.specs.Records.{ofQuery, kindOf}
 use Rattle.records.specs.Walking.{Rules, Stop, shortNumber, walk}
 use Rattle.records.specs.declared.Record.{Record}
-use Rattle.records.specs.declared.Record.the-variants.{Attribute, Object, Dependency, Row, Declared, Removed}
-use Rattle.records.specs.declared.Record.the-variants.{Comparisons, OnlyDeclared, Item}
-use Rattle.records.specs.declared.Record.the-variants.{CompareTwo, CompareConstant, End}
 use Rattle.records.specs.declared.Reading.{Reading}
 use Rattle.records.specs.declared.Reading.the-variants.{Nothing, Unknown, Short, Found}
 use Rattle.scheme.specs.declared.Scheme.{Scheme}
@@ -29,18 +26,7 @@ use Rattle.query.specs.Faults.{faultOf}
 
 -- "a query ends at its first kind 10, and bytes after that aren't read"
 unfoldable pub isEnd : Record → Bool
-isEnd (Attribute id kind) = false
-isEnd (Object number set) = false
-isEnd (Dependency left right) = false
-isEnd (Row object c0 c1 c2 c3 c4 c5) = false
-isEnd (Declared set) = false
-isEnd (Removed set) = false
-isEnd (Comparisons names lengths angles dates) = false
-isEnd OnlyDeclared = false
-isEnd (Item v a) = false
-isEnd (CompareTwo v a operator v2 a2) = false
-isEnd (CompareConstant v a operator cell) = false
-isEnd End = true
+isEnd r = eqb (kindOf r) 10
 
 -- the state is the records accepted; "Bytes ending without kind 10: 3."
 abbrev pub queryRules : Scheme → Rules (List Record)

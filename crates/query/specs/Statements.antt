@@ -13,7 +13,8 @@ use Rattle.records.specs.Checks.{First}
 use Rattle.records.specs.Gathered.{Gathered}
 use Rattle.records.specs.Reader.{readAt}
 use Rattle.records.specs.declared.Record.{Record}
-use Rattle.records.specs.declared.Record.the-variants.{Item, CompareTwo, CompareConstant, End}
+use Rattle.records.specs.declared.Record.the-variants.{OfQuery}
+use Rattle.records.specs.declared.QueryRecord.the-variants.{Item, CompareTwo, CompareConstant, End}
 use Rattle.records.specs.declared.Reading.the-variants.{Found}
 use Rattle.scheme.specs.declared.Scheme.{Scheme}
 use Rattle.scheme.specs.Statements.{LeavesOut}
@@ -34,12 +35,13 @@ pub record FaultMeans (s : Scheme) (items comparisons : ℕ) (r : Record) : Type
 -- ---- what records ask
 
 abbrev pub SaysItem : Record → QueryItem → Type 0
-SaysItem r i = r ≡ Item (i .variable) (i .attribute)
+SaysItem r i = r ≡ OfQuery (Item (i .variable) (i .attribute))
 
 -- "comparison of two", "comparison with a constant"
 pub data SaysComparison : Record → Comparison → Type 0 where
-  two : {v a operator v2 a2 : ℕ} → SaysComparison (CompareTwo v a operator v2 a2) (ofTwo v a operator v2 a2)
-  constant : {v a operator cell : ℕ} → SaysComparison (CompareConstant v a operator cell) (withCell v a operator cell)
+  two : {v a operator v2 a2 : ℕ} → SaysComparison (OfQuery (CompareTwo v a operator v2 a2)) (ofTwo v a operator v2 a2)
+  constant : {v a operator cell : ℕ}
+      → SaysComparison (OfQuery (CompareConstant v a operator cell)) (withCell v a operator cell)
 
 -- the items and the comparisons are the fields of the records, in their order, all of them and no other; "X is every
 -- attribute named with it"
@@ -72,7 +74,7 @@ pub record ReadExactly (s : Scheme) (Ms b : List ℕ) : Type 0 where
 pub record AcceptedFits (s : Scheme) (b : List ℕ) : Type 0 where
   pub asks : (rs : List Record) (at : ℕ) → Accepted s b rs at → AskedWhole rs
   -- also with kind 10 behind them
-  pub ends : (rs : List Record) (at : ℕ) → Accepted s b rs at → AskedWhole (rs ++ End ∷ [])
+  pub ends : (rs : List Record) (at : ℕ) → Accepted s b rs at → AskedWhole (rs ++ OfQuery End ∷ [])
   -- "variables 0 to 3"; "attribute, id 0..31"
   pub named : (rs : List Record) (at v a : ℕ) → Accepted s b rs at → NamedIn rs v a → (v < 4) × (a < 32)
 
@@ -98,7 +100,7 @@ pub record Ended (s : Scheme) (Ms b : List ℕ) (n : ℕ) : Type 0 where
   pub at : ℕ
   pub next : ℕ
   pub accepted : Accepted s b passed at
-  pub atKindTen : readAt b at ≡ Found End next
+  pub atKindTen : readAt b at ≡ Found (OfQuery End) next
   pub whole : OfWhole s Ms passed n
 
 pub record NumberMeans (s : Scheme) (Ms b : List ℕ) : Type 0 where

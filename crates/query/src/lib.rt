@@ -9,6 +9,7 @@ ghost use Rattle.query.specs.Asking.{nothingAsked, withName, withItem, w
 ghost use Rattle.query.specs.Faults.{faultOf};
 ghost use Rattle.query.specs.Reading.{isEnd, stopNumber, walkQuery, walkedOf, containing, isNil, someUnconnected};
 ghost use Rattle.query.specs.Reading.{wholeNumber, read, queryOf};
+use records::QueryRecord;
 use records::Reading;
 use records::Record;
 use scheme::Scheme;
@@ -52,7 +53,7 @@ pub struct Query {
 
 // The faults of kinds 7 to 9, each by the paper's order, behind so many items (retrieved) and comparisons (compared).
 fn item_fault(s: Scheme, retrieved: usize, compared: usize, variable: u8, attribute: u8) -> u8
-    ensures { λ r. ⌜ r ≡ faultOf s retrieved compared (Record.Item variable attribute) ⌝ }
+    ensures { λ r. ⌜ r ≡ faultOf s retrieved compared (Record.OfQuery (QueryRecord.Item variable attribute)) ⌝ }
 {
     if retrieved >= 8 {
         return 4;
@@ -79,7 +80,7 @@ fn two_fault(
     variable2: u8,
     attribute2: u8,
 ) -> u8
-    ensures { λ r. ⌜ r ≡ faultOf s retrieved compared (Record.CompareTwo variable attribute operator variable2 attribute2) ⌝ }
+    ensures { λ r. ⌜ r ≡ faultOf s retrieved compared (Record.OfQuery (QueryRecord.CompareTwo variable attribute operator variable2 attribute2)) ⌝ }
 {
     if compared >= 16 {
         return 4;
@@ -107,7 +108,7 @@ fn two_fault(
     }
     let a = attribute as usize;
     let a2 = attribute2 as usize;
-    let table = s.table;
+    let table = s.table.masks;
     if !values::allowed(table, operator, s.kinds[a], s.kinds[a2]) {
         return 11;
     }
@@ -123,7 +124,7 @@ fn constant_fault(
     operator: u8,
     cell: u32,
 ) -> u8
-    ensures { λ r. ⌜ r ≡ faultOf s retrieved compared (Record.CompareConstant variable attribute operator cell) ⌝ }
+    ensures { λ r. ⌜ r ≡ faultOf s retrieved compared (Record.OfQuery (QueryRecord.CompareConstant variable attribute operator cell)) ⌝ }
 {
     if compared >= 16 {
         return 4;
@@ -142,7 +143,7 @@ fn constant_fault(
     }
     let a = attribute as usize;
     let kind = s.kinds[a];
-    let table = s.table;
+    let table = s.table.masks;
     if !values::allowed(table, operator, kind, kind) {
         return 11;
     }
@@ -155,16 +156,16 @@ fn constant_fault(
     0
 }
 
-// The fault of a whole record, 0 where it has none.
-fn fault(s: Scheme, retrieved: usize, compared: usize, r: Record) -> u8
-    ensures { λ n. ⌜ n ≡ faultOf s retrieved compared r ⌝ }
+// The fault of a whole record of a query, 0 where it has none.
+fn query_fault(s: Scheme, retrieved: usize, compared: usize, r: QueryRecord) -> u8
+    ensures { λ n. ⌜ n ≡ faultOf s retrieved compared (Record.OfQuery r) ⌝ }
 {
     match r {
-        Record::Item {
+        QueryRecord::Item {
             variable,
             attribute,
         } => item_fault(s, retrieved, compared, variable, attribute),
-        Record::CompareTwo {
+        QueryRecord::CompareTwo {
             variable,
             attribute,
             operator,
@@ -182,14 +183,23 @@ fn fault(s: Scheme, retrieved: usize, compared: usize, r: Record) -> u8
                 attribute2,
             )
         }
-        Record::CompareConstant {
+        QueryRecord::CompareConstant {
             variable,
             attribute,
             operator,
             cell,
         } => { constant_fault(s, retrieved, compared, variable, attribute, operator, cell) }
-        Record::End => 0,
-        _ => 2,
+        QueryRecord::End => 0,
+    }
+}
+
+// The fault of a whole record: a book's may not stand in a query.
+fn fault(s: Scheme, retrieved: usize, compared: usize, r: Record) -> u8
+    ensures { λ n. ⌜ n ≡ faultOf s retrieved compared r ⌝ }
+{
+    match r {
+        Record::OfBook(_) => 2,
+        Record::OfQuery(record) => query_fault(s, retrieved, compared, record),
     }
 }
 
@@ -259,7 +269,7 @@ fn with_two(
     attribute2: u8,
 ) -> Asked
     requires { ⌜ (q .compared < 16) × ((variable < 4) × (attribute < 32)) × ((variable2 < 4) × (attribute2 < 32)) ⌝ }
-    ensures { λ r. ⌜ r ≡ withRecord q (Record.CompareTwo variable attribute operator variable2 attribute2) ⌝ }
+    ensures { λ r. ⌜ r ≡ withRecord q (Record.OfQuery (QueryRecord.CompareTwo variable attribute operator variable2 attribute2)) ⌝ }
 {
     let c = Comparison {
         variable,
@@ -279,7 +289,7 @@ fn with_two(
 
 fn with_constant(q: Asked, variable: u8, attribute: u8, operator: u8, cell: u32) -> Asked
     requires { ⌜ (q .compared < 16) × (variable < 4) × (attribute < 32) ⌝ }
-    ensures { λ r. ⌜ r ≡ withRecord q (Record.CompareConstant variable attribute operator cell) ⌝ }
+    ensures { λ r. ⌜ r ≡ withRecord q (Record.OfQuery (QueryRecord.CompareConstant variable attribute operator cell)) ⌝ }
 {
     let c = Comparison {
         variable,
@@ -293,13 +303,13 @@ fn with_constant(q: Asked, variable: u8, attribute: u8, operator: u8, cell: u32)
     with_name(with_comparison(q, c), variable, attribute)
 }
 
-// What a record without a fault adds.
-fn with_record(s: Scheme, q: Asked, r: Record) -> Asked
-    requires { ⌜ faultOf s (q .retrieved) (q .compared) r ≡ 0 ⌝ }
-    ensures { λ d. ⌜ d ≡ withRecord q r ⌝ }
+// What a record of a query without a fault adds.
+fn with_query_record(s: Scheme, q: Asked, r: QueryRecord) -> Asked
+    requires { ⌜ faultOf s (q .retrieved) (q .compared) (Record.OfQuery r) ≡ 0 ⌝ }
+    ensures { λ d. ⌜ d ≡ withRecord q (Record.OfQuery r) ⌝ }
 {
     match r {
-        Record::Item {
+        QueryRecord::Item {
             variable,
             attribute,
         } => {
@@ -309,20 +319,31 @@ fn with_record(s: Scheme, q: Asked, r: Record) -> Asked
             };
             with_name(with_item(q, i), variable, attribute)
         }
-        Record::CompareTwo {
+        QueryRecord::CompareTwo {
             variable,
             attribute,
             operator,
             variable2,
             attribute2,
         } => { with_two(q, variable, attribute, operator, variable2, attribute2) }
-        Record::CompareConstant {
+        QueryRecord::CompareConstant {
             variable,
             attribute,
             operator,
             cell,
         } => { with_constant(q, variable, attribute, operator, cell) }
-        _ => q,
+        QueryRecord::End => q,
+    }
+}
+
+// What a record without a fault adds; a book's stands in no query.
+fn with_record(s: Scheme, q: Asked, r: Record) -> Asked
+    requires { ⌜ faultOf s (q .retrieved) (q .compared) r ≡ 0 ⌝ }
+    ensures { λ d. ⌜ d ≡ withRecord q r ⌝ }
+{
+    match r {
+        Record::OfBook(_) => q,
+        Record::OfQuery(record) => with_query_record(s, q, record),
     }
 }
 
@@ -330,7 +351,7 @@ fn with_record(s: Scheme, q: Asked, r: Record) -> Asked
 fn is_end(r: Record) -> bool
     ensures { λ b. ⌜ b ≡ isEnd r ⌝ }
 {
-    if let Record::End = r { true } else { false }
+    records::kind_of(r) == 10
 }
 
 // The fault of a body that is cut short, by its kind.

@@ -9,9 +9,10 @@ use Rattle.records.specs.Fields.{bytes, value, field}
 use Rattle.records.specs.Records.{kinds, whose, isKind, bodyLength, bytesOf}
 use Rattle.records.specs.Reader.{bodies, recordOf, readFront, readAt}
 use Rattle.records.specs.declared.Record.{Record}
-use Rattle.records.specs.declared.Record.the-variants.{Attribute, Object, Dependency, Row, Declared, Removed}
-use Rattle.records.specs.declared.Record.the-variants.{Comparisons, OnlyDeclared}
-use Rattle.records.specs.declared.Record.the-variants.{Item, CompareTwo, CompareConstant, End}
+use Rattle.records.specs.declared.Record.the-variants.{OfBook, OfQuery}
+use Rattle.records.specs.declared.BookRecord.the-variants.{Attribute, Object, Dependency, Row, Declared}
+use Rattle.records.specs.declared.BookRecord.the-variants.{Removed, ComparisonTable, OnlyDeclared}
+use Rattle.records.specs.declared.QueryRecord.the-variants.{Item, CompareTwo, CompareConstant, End}
 use Rattle.records.specs.declared.Reading.the-variants.{Found}
 
 -- A record, and the bytes that the paper's table says it is.
@@ -25,37 +26,37 @@ pub record Example : Type 0 where
 unfoldable pub examples : List Example
 examples =
     -- "id, value kind"
-    record { content = Attribute 5 2; says = 1 ∷ 5 ∷ 2 ∷ [] }
+    record { content = OfBook (Attribute 5 2); says = 1 ∷ 5 ∷ 2 ∷ [] }
     -- "number, set"
-    ∷ record { content = Object 9 67305985; says = 2 ∷ 9 ∷ 1 ∷ 2 ∷ 3 ∷ 4 ∷ [] }
+    ∷ record { content = OfBook (Object 9 67305985); says = 2 ∷ 9 ∷ 1 ∷ 2 ∷ 3 ∷ 4 ∷ [] }
     -- "dependency: left determines right"
-    ∷ record { content = Dependency 67305985 134678021; says = 3 ∷ 1 ∷ 2 ∷ 3 ∷ 4 ∷ 5 ∷ 6 ∷ 7 ∷ 8 ∷ [] }
+    ∷ record { content = OfBook (Dependency 67305985 134678021); says = 3 ∷ 1 ∷ 2 ∷ 3 ∷ 4 ∷ 5 ∷ 6 ∷ 7 ∷ 8 ∷ [] }
     -- "object, six cells"
     ∷ record {
-      content = Row 31 67305985 134678021 202050057 269422093 336794129 404166165;
+      content = OfBook (Row 31 67305985 134678021 202050057 269422093 336794129 404166165);
       says =
           4 ∷ 31 ∷ 1 ∷ 2 ∷ 3 ∷ 4 ∷ 5 ∷ 6 ∷ 7 ∷ 8 ∷ 9 ∷ 10 ∷ 11 ∷ 12
           ∷ 13 ∷ 14 ∷ 15 ∷ 16 ∷ 17 ∷ 18 ∷ 19 ∷ 20 ∷ 21 ∷ 22 ∷ 23 ∷ 24 ∷ [];
     }
     -- "declared maximal object"
-    ∷ record { content = Declared 67305985; says = 5 ∷ 1 ∷ 2 ∷ 3 ∷ 4 ∷ [] }
+    ∷ record { content = OfBook (Declared 67305985); says = 5 ∷ 1 ∷ 2 ∷ 3 ∷ 4 ∷ [] }
     -- "computed maximal object to be removed"
-    ∷ record { content = Removed 134678021; says = 6 ∷ 5 ∷ 6 ∷ 7 ∷ 8 ∷ [] }
+    ∷ record { content = OfBook (Removed 134678021); says = 6 ∷ 5 ∷ 6 ∷ 7 ∷ 8 ∷ [] }
     -- request 7: "16 bytes, byte 4 times left kind plus right kind"
     ∷ record {
-      content = Comparisons 67305985 134678021 202050057 269422093;
+      content = OfBook (ComparisonTable 67305985 134678021 202050057 269422093);
       says = 13 ∷ 1 ∷ 2 ∷ 3 ∷ 4 ∷ 5 ∷ 6 ∷ 7 ∷ 8 ∷ 9 ∷ 10 ∷ 11 ∷ 12 ∷ 13 ∷ 14 ∷ 15 ∷ 16 ∷ [];
     }
     -- request 8: "only declared maximal objects count"
-    ∷ record { content = OnlyDeclared; says = 14 ∷ [] }
+    ∷ record { content = OfBook OnlyDeclared; says = 14 ∷ [] }
     -- "variable, attribute"
-    ∷ record { content = Item 2 12; says = 7 ∷ 2 ∷ 12 ∷ [] }
+    ∷ record { content = OfQuery (Item 2 12); says = 7 ∷ 2 ∷ 12 ∷ [] }
     -- "variable, attribute, operator, variable, attribute"
-    ∷ record { content = CompareTwo 1 12 5 3 14; says = 8 ∷ 1 ∷ 12 ∷ 5 ∷ 3 ∷ 14 ∷ [] }
+    ∷ record { content = OfQuery (CompareTwo 1 12 5 3 14); says = 8 ∷ 1 ∷ 12 ∷ 5 ∷ 3 ∷ 14 ∷ [] }
     -- "variable, attribute, operator, cell"
-    ∷ record { content = CompareConstant 2 13 4 404166165; says = 9 ∷ 2 ∷ 13 ∷ 4 ∷ 21 ∷ 22 ∷ 23 ∷ 24 ∷ [] }
+    ∷ record { content = OfQuery (CompareConstant 2 13 4 404166165); says = 9 ∷ 2 ∷ 13 ∷ 4 ∷ 21 ∷ 22 ∷ 23 ∷ 24 ∷ [] }
     -- "end of query"
-    ∷ record { content = End; says = 10 ∷ [] }
+    ∷ record { content = OfQuery End; says = 10 ∷ [] }
     ∷ []
 
 pub examples-written : map (λ e. bytesOf (e .content)) examples ≡ map (λ e. e .says) examples

@@ -1,6 +1,6 @@
 -- Laws of kinds and of the bytes of a record.
--- In order: kinds; a record's kind byte and body; the body of a record that was written, and a body written again; each
--- record at its place.
+-- In order: kinds; a record's kind byte and body; whose record it is, and rows; the body of a record that was written,
+-- and a body written again; each record at its place.
 -- Assumes nothing.
 use mathlib.Core.Path.{_≡_, refl, sym, ap, _∙_}
 use mathlib.Core.Bool.{true, false, not, false≢true}
@@ -19,9 +19,12 @@ use Rattle.records.specs.Records.{kinds, whose, isKind, ofBook, ofQuery,
 use Rattle.records.specs.Records.{Small, Wide, InWidth}
 use Rattle.records.specs.Reader.{bodies, recordOf}
 use Rattle.records.specs.declared.Record.{Record}
-use Rattle.records.specs.declared.Record.the-variants.{Attribute, Object, Dependency, Row, Declared, Removed}
-use Rattle.records.specs.declared.Record.the-variants.{Comparisons, OnlyDeclared}
-use Rattle.records.specs.declared.Record.the-variants.{Item, CompareTwo, CompareConstant, End}
+use Rattle.records.specs.declared.BookRecord.{BookRecord}
+use Rattle.records.specs.declared.QueryRecord.{QueryRecord}
+use Rattle.records.specs.declared.Record.the-variants.{OfBook, OfQuery}
+use Rattle.records.specs.declared.BookRecord.the-variants.{Attribute, Object, Dependency, Row, Declared}
+use Rattle.records.specs.declared.BookRecord.the-variants.{Removed, ComparisonTable, OnlyDeclared}
+use Rattle.records.specs.declared.QueryRecord.the-variants.{Item, CompareTwo, CompareConstant, End}
 use Rattle.records.proofs.Fields.{value-bytes, bytes-field, field-drop, field-below}
 
 -- ---- kinds
@@ -110,65 +113,111 @@ pub record Shape (r : Record) : Type 0 where
 
 pub shape : (r : Record) → Shape r
 unfolding isKind bodyLength whose kinds kindOf bytesOf bytes
-shape (Attribute id kind) = record { kind = refl; split = refl; body = refl }
-shape (Object number set) = record { kind = refl; split = refl; body = refl }
-shape (Dependency left right) = record { kind = refl; split = refl; body = refl }
-shape (Row object c0 c1 c2 c3 c4 c5) = record { kind = refl; split = refl; body = refl }
-shape (Declared set) = record { kind = refl; split = refl; body = refl }
-shape (Removed set) = record { kind = refl; split = refl; body = refl }
-shape (Comparisons names lengths angles dates) = record { kind = refl; split = refl; body = refl }
-shape OnlyDeclared = record { kind = refl; split = refl; body = refl }
-shape (Item variable attribute) = record { kind = refl; split = refl; body = refl }
-shape (CompareTwo variable attribute operator variable2 attribute2) = record { kind = refl; split = refl; body = refl }
-shape (CompareConstant variable attribute operator cell) = record { kind = refl; split = refl; body = refl }
-shape End = record { kind = refl; split = refl; body = refl }
+shape (OfBook (Attribute id kind)) = record { kind = refl; split = refl; body = refl }
+shape (OfBook (Object number set)) = record { kind = refl; split = refl; body = refl }
+shape (OfBook (Dependency left right)) = record { kind = refl; split = refl; body = refl }
+shape (OfBook (Row object c0 c1 c2 c3 c4 c5)) = record { kind = refl; split = refl; body = refl }
+shape (OfBook (Declared set)) = record { kind = refl; split = refl; body = refl }
+shape (OfBook (Removed set)) = record { kind = refl; split = refl; body = refl }
+shape (OfBook (ComparisonTable names lengths angles dates)) = record { kind = refl; split = refl; body = refl }
+shape (OfBook OnlyDeclared) = record { kind = refl; split = refl; body = refl }
+shape (OfQuery (Item variable attribute)) = record { kind = refl; split = refl; body = refl }
+shape (OfQuery (CompareTwo variable attribute operator variable2 attribute2)) =
+    record { kind = refl; split = refl; body = refl }
+shape (OfQuery (CompareConstant variable attribute operator cell)) = record { kind = refl; split = refl; body = refl }
+shape (OfQuery End) = record { kind = refl; split = refl; body = refl }
 
 pub length-bytesOf : (r : Record) → length (bytesOf r) ≡ 1 + bodyLength (kindOf r)
 length-bytesOf r = ap length (shape r .split) ∙ omega (arith, shape r .body)
+
+-- ---- whose record it is, and rows
+
+pub of-book-kind : (r : BookRecord) → ofBook (kindOf (OfBook r)) ≡ true
+unfolding kindOf ofBook whose kinds
+of-book-kind (Attribute id kind) = refl
+of-book-kind (Object number set) = refl
+of-book-kind (Dependency left right) = refl
+of-book-kind (Row object c0 c1 c2 c3 c4 c5) = refl
+of-book-kind (Declared set) = refl
+of-book-kind (Removed set) = refl
+of-book-kind (ComparisonTable names lengths angles dates) = refl
+of-book-kind OnlyDeclared = refl
+
+pub of-query-kind : (r : QueryRecord) → ofQuery (kindOf (OfQuery r)) ≡ true
+unfolding kindOf ofQuery whose kinds
+of-query-kind (Item variable attribute) = refl
+of-query-kind (CompareTwo variable attribute operator variable2 attribute2) = refl
+of-query-kind (CompareConstant variable attribute operator cell) = refl
+of-query-kind End = refl
+
+-- a kind of a query is none of a book's
+pub no-row-of-a-query : (r : QueryRecord) → kindOf (OfQuery r) ≡ 4 → ⊥
+unfolding ofQuery whose kinds
+no-row-of-a-query r e = false≢true (sym (ap ofQuery e) ∙ of-query-kind r)
+
+-- a record is a row, or its kind is not 4
+pub data RowOrNot : Record → Type 0 where
+  aRow : (object c0 c1 c2 c3 c4 c5 : ℕ) → RowOrNot (OfBook (Row object c0 c1 c2 c3 c4 c5))
+  anotherKind : {r : Record} → (kindOf r ≡ 4 → ⊥) → RowOrNot r
+
+pub row-or-not : (r : Record) → RowOrNot r
+unfolding kindOf
+row-or-not (OfBook (Attribute id kind)) = anotherKind {r = OfBook (Attribute id kind)} (λ e. omega (arith, e))
+row-or-not (OfBook (Object number set)) = anotherKind {r = OfBook (Object number set)} (λ e. omega (arith, e))
+row-or-not (OfBook (Dependency left right)) = anotherKind {r = OfBook (Dependency left right)} (λ e. omega (arith, e))
+row-or-not (OfBook (Row object c0 c1 c2 c3 c4 c5)) = aRow object c0 c1 c2 c3 c4 c5
+row-or-not (OfBook (Declared set)) = anotherKind {r = OfBook (Declared set)} (λ e. omega (arith, e))
+row-or-not (OfBook (Removed set)) = anotherKind {r = OfBook (Removed set)} (λ e. omega (arith, e))
+row-or-not (OfBook (ComparisonTable names lengths angles dates)) =
+    anotherKind {r = OfBook (ComparisonTable names lengths angles dates)} (λ e. omega (arith, e))
+row-or-not (OfBook OnlyDeclared) = anotherKind {r = OfBook OnlyDeclared} (λ e. omega (arith, e))
+row-or-not (OfQuery r) = anotherKind {r = OfQuery r} (no-row-of-a-query r)
 
 -- ---- the body of a record that was written, and a body written again
 
 -- What is read from the body of a written record is the record, whatever stands after it.
 pub recordOf-written : (r : Record) (q : List ℕ) → InWidth r → recordOf (kindOf r) (drop 1 (bytesOf r) ++ q) ≡ r
 unfolding recordOf bodies kindOf bytesOf bytes field InWidth
-recordOf-written (Attribute id kind) q h = λ i. Attribute (value-bytes 1 id (h .0) i) (value-bytes 1 kind (h .1) i)
-recordOf-written (Object number set) q h = λ i. Object (value-bytes 1 number (h .0) i) (value-bytes 4 set (h .1) i)
-recordOf-written (Dependency left right) q h =
-    λ i. Dependency (value-bytes 4 left (h .0) i) (value-bytes 4 right (h .1) i)
-recordOf-written (Row object c0 c1 c2 c3 c4 c5) q h =
-    λ i. Row
+recordOf-written (OfBook (Attribute id kind)) q h =
+    λ i. OfBook (Attribute (value-bytes 1 id (h .0) i) (value-bytes 1 kind (h .1) i))
+recordOf-written (OfBook (Object number set)) q h =
+    λ i. OfBook (Object (value-bytes 1 number (h .0) i) (value-bytes 4 set (h .1) i))
+recordOf-written (OfBook (Dependency left right)) q h =
+    λ i. OfBook (Dependency (value-bytes 4 left (h .0) i) (value-bytes 4 right (h .1) i))
+recordOf-written (OfBook (Row object c0 c1 c2 c3 c4 c5)) q h =
+    λ i. OfBook (Row
     (value-bytes 1 object (h .0) i)
     (value-bytes 4 c0 (h .1) i)
     (value-bytes 4 c1 (h .2) i)
     (value-bytes 4 c2 (h .3) i)
     (value-bytes 4 c3 (h .4) i)
     (value-bytes 4 c4 (h .5) i)
-    (value-bytes 4 c5 (h .6) i)
-recordOf-written (Declared set) q h = λ i. Declared (value-bytes 4 set h i)
-recordOf-written (Removed set) q h = λ i. Removed (value-bytes 4 set h i)
-recordOf-written (Comparisons names lengths angles dates) q h =
-    λ i. Comparisons
+    (value-bytes 4 c5 (h .6) i))
+recordOf-written (OfBook (Declared set)) q h = λ i. OfBook (Declared (value-bytes 4 set h i))
+recordOf-written (OfBook (Removed set)) q h = λ i. OfBook (Removed (value-bytes 4 set h i))
+recordOf-written (OfBook (ComparisonTable names lengths angles dates)) q h =
+    λ i. OfBook (ComparisonTable
     (value-bytes 4 names (h .0) i)
     (value-bytes 4 lengths (h .1) i)
     (value-bytes 4 angles (h .2) i)
-    (value-bytes 4 dates (h .3) i)
-recordOf-written OnlyDeclared q h = refl
-recordOf-written (Item variable attribute) q h =
-    λ i. Item (value-bytes 1 variable (h .0) i) (value-bytes 1 attribute (h .1) i)
-recordOf-written (CompareTwo variable attribute operator variable2 attribute2) q h =
-    λ i. CompareTwo
+    (value-bytes 4 dates (h .3) i))
+recordOf-written (OfBook OnlyDeclared) q h = refl
+recordOf-written (OfQuery (Item variable attribute)) q h =
+    λ i. OfQuery (Item (value-bytes 1 variable (h .0) i) (value-bytes 1 attribute (h .1) i))
+recordOf-written (OfQuery (CompareTwo variable attribute operator variable2 attribute2)) q h =
+    λ i. OfQuery (CompareTwo
     (value-bytes 1 variable (h .0) i)
     (value-bytes 1 attribute (h .1) i)
     (value-bytes 1 operator (h .2) i)
     (value-bytes 1 variable2 (h .3) i)
-    (value-bytes 1 attribute2 (h .4) i)
-recordOf-written (CompareConstant variable attribute operator cell) q h =
-    λ i. CompareConstant
+    (value-bytes 1 attribute2 (h .4) i))
+recordOf-written (OfQuery (CompareConstant variable attribute operator cell)) q h =
+    λ i. OfQuery (CompareConstant
     (value-bytes 1 variable (h .0) i)
     (value-bytes 1 attribute (h .1) i)
     (value-bytes 1 operator (h .2) i)
-    (value-bytes 4 cell (h .3) i)
-recordOf-written End q h = refl
+    (value-bytes 4 cell (h .3) i))
+recordOf-written (OfQuery End) q h = refl
 
 -- The fields of a body, written one after another, are the body's first bytes.
 module _ (b : List ℕ) {n : ℕ} (given : AreBytes b) (fits : n ≤ length b) where
@@ -228,43 +277,43 @@ inWidth-recordOf b k given =
 -- ---- each record at its place: the record of kind k whose body starts at position b of s, from the fields there
 
 pub attribute-at : (s : List ℕ) (k b id kind : ℕ) → k ≡ 1
-    → id ≡ field 1 s b → kind ≡ field 1 s (b + 1) → Attribute id kind ≡ recordOf k (drop b s)
+    → id ≡ field 1 s b → kind ≡ field 1 s (b + 1) → OfBook (Attribute id kind) ≡ recordOf k (drop b s)
 unfolding recordOf bodies
 attribute-at s k b id kind e e0 e1 = simp (e, e0, e1, field-drop, add-zero)
 
 pub object-at : (s : List ℕ) (k b number set : ℕ) → k ≡ 2
-    → number ≡ field 1 s b → set ≡ field 4 s (b + 1) → Object number set ≡ recordOf k (drop b s)
+    → number ≡ field 1 s b → set ≡ field 4 s (b + 1) → OfBook (Object number set) ≡ recordOf k (drop b s)
 unfolding recordOf bodies
 object-at s k b number set e e0 e1 = simp (e, e0, e1, field-drop, add-zero)
 
 pub dependency-at : (s : List ℕ) (k b left right : ℕ) → k ≡ 3
-    → left ≡ field 4 s b → right ≡ field 4 s (b + 4) → Dependency left right ≡ recordOf k (drop b s)
+    → left ≡ field 4 s b → right ≡ field 4 s (b + 4) → OfBook (Dependency left right) ≡ recordOf k (drop b s)
 unfolding recordOf bodies
 dependency-at s k b left right e e0 e1 = simp (e, e0, e1, field-drop, add-zero)
 
 pub row-at : (s : List ℕ) (k b object c0 c1 c2 c3 c4 c5 : ℕ) → k ≡ 4
     → object ≡ field 1 s b → c0 ≡ field 4 s (b + 1) → c1 ≡ field 4 s (b + 5) → c2 ≡ field 4 s (b + 9)
     → c3 ≡ field 4 s (b + 13) → c4 ≡ field 4 s (b + 17) → c5 ≡ field 4 s (b + 21)
-    → Row object c0 c1 c2 c3 c4 c5 ≡ recordOf k (drop b s)
+    → OfBook (Row object c0 c1 c2 c3 c4 c5) ≡ recordOf k (drop b s)
 unfolding recordOf bodies
 row-at s k b object c0 c1 c2 c3 c4 c5 e e0 e1 e2 e3 e4 e5 e6 =
     simp (e, e0, e1, e2, e3, e4, e5, e6, field-drop, add-zero)
 
 pub declared-at : (s : List ℕ) (k b set : ℕ) → k ≡ 5
-    → set ≡ field 4 s b → Declared set ≡ recordOf k (drop b s)
+    → set ≡ field 4 s b → OfBook (Declared set) ≡ recordOf k (drop b s)
 unfolding recordOf bodies
 declared-at s k b set e e0 = simp (e, e0, field-drop, add-zero)
 
 pub removed-at : (s : List ℕ) (k b set : ℕ) → k ≡ 6
-    → set ≡ field 4 s b → Removed set ≡ recordOf k (drop b s)
+    → set ≡ field 4 s b → OfBook (Removed set) ≡ recordOf k (drop b s)
 unfolding recordOf bodies
 removed-at s k b set e e0 = simp (e, e0, field-drop, add-zero)
 
-pub comparisons-at : (s : List ℕ) (k b names lengths angles dates : ℕ) → k ≡ 13
+pub comparison-table-at : (s : List ℕ) (k b names lengths angles dates : ℕ) → k ≡ 13
     → names ≡ field 4 s b → lengths ≡ field 4 s (b + 4) → angles ≡ field 4 s (b + 8) → dates ≡ field 4 s (b + 12)
-    → Comparisons names lengths angles dates ≡ recordOf k (drop b s)
+    → OfBook (ComparisonTable names lengths angles dates) ≡ recordOf k (drop b s)
 unfolding recordOf bodies
-comparisons-at s k b names lengths angles dates e e0 e1 e2 e3 = simp (e, e0, e1, e2, e3, field-drop, add-zero)
+comparison-table-at s k b names lengths angles dates e e0 e1 e2 e3 = simp (e, e0, e1, e2, e3, field-drop, add-zero)
 
 -- the masks of a table, byte by byte
 pub masks-are : (names lengths angles dates : ℕ)
@@ -284,30 +333,30 @@ masks-are names lengths angles dates e0 e1 e2 e3 e4 e5 e6 e7 e8 e9 e10 e11 e12 e
     λ i. e0 i ∷ e1 i ∷ e2 i ∷ e3 i ∷ e4 i ∷ e5 i ∷ e6 i ∷ e7 i ∷ e8 i ∷ e9 i ∷ e10 i ∷ e11 i
     ∷ e12 i ∷ e13 i ∷ e14 i ∷ e15 i ∷ []
 
-pub onlyDeclared-at : (s : List ℕ) (k b : ℕ) → k ≡ 14 → OnlyDeclared ≡ recordOf k (drop b s)
+pub onlyDeclared-at : (s : List ℕ) (k b : ℕ) → k ≡ 14 → OfBook OnlyDeclared ≡ recordOf k (drop b s)
 unfolding recordOf bodies
 onlyDeclared-at s k b e = simp e
 
 pub item-at : (s : List ℕ) (k b variable attribute : ℕ) → k ≡ 7
-    → variable ≡ field 1 s b → attribute ≡ field 1 s (b + 1) → Item variable attribute ≡ recordOf k (drop b s)
+    → variable ≡ field 1 s b → attribute ≡ field 1 s (b + 1) → OfQuery (Item variable attribute) ≡ recordOf k (drop b s)
 unfolding recordOf bodies
 item-at s k b variable attribute e e0 e1 = simp (e, e0, e1, field-drop, add-zero)
 
 pub compareTwo-at : (s : List ℕ) (k b variable attribute operator variable2 attribute2 : ℕ) → k ≡ 8
     → variable ≡ field 1 s b → attribute ≡ field 1 s (b + 1) → operator ≡ field 1 s (b + 2)
     → variable2 ≡ field 1 s (b + 3) → attribute2 ≡ field 1 s (b + 4)
-    → CompareTwo variable attribute operator variable2 attribute2 ≡ recordOf k (drop b s)
+    → OfQuery (CompareTwo variable attribute operator variable2 attribute2) ≡ recordOf k (drop b s)
 unfolding recordOf bodies
 compareTwo-at s k b variable attribute operator variable2 attribute2 e e0 e1 e2 e3 e4 =
     simp (e, e0, e1, e2, e3, e4, field-drop, add-zero)
 
 pub compareConstant-at : (s : List ℕ) (k b variable attribute operator cell : ℕ) → k ≡ 9
     → variable ≡ field 1 s b → attribute ≡ field 1 s (b + 1) → operator ≡ field 1 s (b + 2)
-    → cell ≡ field 4 s (b + 3) → CompareConstant variable attribute operator cell ≡ recordOf k (drop b s)
+    → cell ≡ field 4 s (b + 3) → OfQuery (CompareConstant variable attribute operator cell) ≡ recordOf k (drop b s)
 unfolding recordOf bodies
 compareConstant-at s k b variable attribute operator cell e e0 e1 e2 e3 =
     simp (e, e0, e1, e2, e3, field-drop, add-zero)
 
-pub end-at : (s : List ℕ) (k b : ℕ) → k ≡ 10 → End ≡ recordOf k (drop b s)
+pub end-at : (s : List ℕ) (k b : ℕ) → k ≡ 10 → OfQuery End ≡ recordOf k (drop b s)
 unfolding recordOf bodies
 end-at s k b e = simp e

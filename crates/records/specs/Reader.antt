@@ -11,9 +11,10 @@ use lib.ListN.{length, getD, drop}
 use Rattle.records.specs.Fields.{field}
 use Rattle.records.specs.Records.{isKind, bodyLength, kindOf}
 use Rattle.records.specs.declared.Record.{Record}
-use Rattle.records.specs.declared.Record.the-variants.{Attribute, Object, Dependency, Row, Declared, Removed}
-use Rattle.records.specs.declared.Record.the-variants.{Comparisons, OnlyDeclared}
-use Rattle.records.specs.declared.Record.the-variants.{Item, CompareTwo, CompareConstant, End}
+use Rattle.records.specs.declared.Record.the-variants.{OfBook, OfQuery}
+use Rattle.records.specs.declared.BookRecord.the-variants.{Attribute, Object, Dependency, Row, Declared}
+use Rattle.records.specs.declared.BookRecord.the-variants.{Removed, ComparisonTable, OnlyDeclared}
+use Rattle.records.specs.declared.QueryRecord.the-variants.{Item, CompareTwo, CompareConstant, End}
 use Rattle.records.specs.declared.Reading.{Reading}
 use Rattle.records.specs.declared.Reading.the-variants.{Nothing, Unknown, Short, Found}
 
@@ -22,26 +23,27 @@ use Rattle.records.specs.declared.Reading.the-variants.{Nothing, Unknown
 -- The record that a body b is for each kind, row for row of the table.
 unfoldable pub bodies : List (List ℕ → Record)
 bodies =
-    (λ b. End)  -- no kind
-    ∷ (λ b. Attribute (field 1 b 0) (field 1 b 1))
-    ∷ (λ b. Object (field 1 b 0) (field 4 b 1))
-    ∷ (λ b. Dependency (field 4 b 0) (field 4 b 4))
-    ∷ (λ b. Row (field 1 b 0) (field 4 b 1) (field 4 b 5) (field 4 b 9) (field 4 b 13) (field 4 b 17) (field 4 b 21))
-    ∷ (λ b. Declared (field 4 b 0))
-    ∷ (λ b. Removed (field 4 b 0))
-    ∷ (λ b. Item (field 1 b 0) (field 1 b 1))
-    ∷ (λ b. CompareTwo (field 1 b 0) (field 1 b 1) (field 1 b 2) (field 1 b 3) (field 1 b 4))
-    ∷ (λ b. CompareConstant (field 1 b 0) (field 1 b 1) (field 1 b 2) (field 4 b 3))
-    ∷ (λ b. End)
-    ∷ (λ b. End)  -- 11
-    ∷ (λ b. End)  -- 12
-    ∷ (λ b. Comparisons (field 4 b 0) (field 4 b 4) (field 4 b 8) (field 4 b 12))
-    ∷ (λ b. OnlyDeclared)
+    (λ b. OfQuery End)  -- no kind
+    ∷ (λ b. OfBook (Attribute (field 1 b 0) (field 1 b 1)))
+    ∷ (λ b. OfBook (Object (field 1 b 0) (field 4 b 1)))
+    ∷ (λ b. OfBook (Dependency (field 4 b 0) (field 4 b 4)))
+    ∷ (λ b. OfBook
+    (Row (field 1 b 0) (field 4 b 1) (field 4 b 5) (field 4 b 9) (field 4 b 13) (field 4 b 17) (field 4 b 21)))
+    ∷ (λ b. OfBook (Declared (field 4 b 0)))
+    ∷ (λ b. OfBook (Removed (field 4 b 0)))
+    ∷ (λ b. OfQuery (Item (field 1 b 0) (field 1 b 1)))
+    ∷ (λ b. OfQuery (CompareTwo (field 1 b 0) (field 1 b 1) (field 1 b 2) (field 1 b 3) (field 1 b 4)))
+    ∷ (λ b. OfQuery (CompareConstant (field 1 b 0) (field 1 b 1) (field 1 b 2) (field 4 b 3)))
+    ∷ (λ b. OfQuery End)
+    ∷ (λ b. OfQuery End)  -- 11
+    ∷ (λ b. OfQuery End)  -- 12
+    ∷ (λ b. OfBook (ComparisonTable (field 4 b 0) (field 4 b 4) (field 4 b 8) (field 4 b 12)))
+    ∷ (λ b. OfBook OnlyDeclared)
     ∷ []
 
 -- The record of kind k whose body b starts with.
 unfoldable pub recordOf : ℕ → List ℕ → Record
-recordOf k = getD bodies k (λ b. End)
+recordOf k = getD bodies k (λ b. OfQuery End)
 
 -- What the bytes from position at on start with. No byte: `Nothing`; a byte that is no kind: `Unknown`; fewer bytes
 -- after it than its body has: `Short`; else the record and the position after it.

@@ -4,12 +4,12 @@ ghost use mathlib.Core.Bool.{true};
 ghost use Prim.Native.Nat.{_+_, _%_, _≤_, _<_};
 ghost use lib.ListN.{length, drop};
 ghost use Rattle.records.specs.Fields.{field};
-ghost use Rattle.records.specs.Records.{whose, bodyLength, isKind, ofBook, ofQuery, masksOf};
+ghost use Rattle.records.specs.Records.{whose, bodyLength, isKind, ofBook, ofQuery, kindOf, masksOf};
 ghost use Rattle.records.specs.Reader.{recordOf, readAt};
 
-// A record, in the order of the paper's table: kinds 1 to 6, 13 and 14 are a book's, 7 to 10 a query's. A
-// comparison table has a word for each left kind, whose bytes are the masks of the right kinds, the lowest first.
-pub enum Record {
+// A record of a book, in the order of the paper's table: kinds 1 to 6, 13 and 14. A comparison table has a word for
+// each left kind, whose bytes are the masks of the right kinds, the lowest first.
+pub enum BookRecord {
     Attribute {
         id: u8,
         kind: u8,
@@ -37,13 +37,17 @@ pub enum Record {
     Removed {
         set: u32,
     },
-    Comparisons {
+    ComparisonTable {
         names: u32,
         lengths: u32,
         angles: u32,
         dates: u32,
     },
     OnlyDeclared,
+}
+
+// A record of a query: kinds 7 to 10.
+pub enum QueryRecord {
     Item {
         variable: u8,
         attribute: u8,
@@ -62,6 +66,12 @@ pub enum Record {
         cell: u32,
     },
     End,
+}
+
+// A record, by whose kind it is.
+pub enum Record {
+    OfBook(BookRecord),
+    OfQuery(QueryRecord),
 }
 
 // What reading at a position finds.
@@ -151,12 +161,76 @@ pub fn of_query(kind: u8) -> bool
     whose(kind) == 2
 }
 
-// The row whose body starts at a position.
-fn row(s: &[u8], body: usize) -> Record
-    requires { ⌜ body + 25 ≤ length (now s) ⌝ }
-    ensures { λ r. ⌜ r ≡ recordOf 4 (drop body (now (s .entry))) ⌝ }
+// The kind of a record of a book, and of a query.
+fn kind_of_book(r: BookRecord) -> u8
+    ensures { λ k. ⌜ k ≡ kindOf (Record.OfBook r) ⌝ }
 {
-    Record::Row {
+    match r {
+        BookRecord::Attribute { id: _, kind: _ } => 1,
+        BookRecord::Object { number: _, set: _ } => 2,
+        BookRecord::Dependency { left: _, right: _ } => 3,
+        BookRecord::Row {
+            object: _,
+            c0: _,
+            c1: _,
+            c2: _,
+            c3: _,
+            c4: _,
+            c5: _,
+        } => 4,
+        BookRecord::Declared { set: _ } => 5,
+        BookRecord::Removed { set: _ } => 6,
+        BookRecord::ComparisonTable {
+            names: _,
+            lengths: _,
+            angles: _,
+            dates: _,
+        } => 13,
+        BookRecord::OnlyDeclared => 14,
+    }
+}
+
+fn kind_of_query(r: QueryRecord) -> u8
+    ensures { λ k. ⌜ k ≡ kindOf (Record.OfQuery r) ⌝ }
+{
+    match r {
+        QueryRecord::Item {
+            variable: _,
+            attribute: _,
+        } => 7,
+        QueryRecord::CompareTwo {
+            variable: _,
+            attribute: _,
+            operator: _,
+            variable2: _,
+            attribute2: _,
+        } => 8,
+        QueryRecord::CompareConstant {
+            variable: _,
+            attribute: _,
+            operator: _,
+            cell: _,
+        } => 9,
+        QueryRecord::End => 10,
+    }
+}
+
+// The kind of a record.
+pub fn kind_of(r: Record) -> u8
+    ensures { λ k. ⌜ k ≡ kindOf r ⌝ }
+{
+    match r {
+        Record::OfBook(record) => kind_of_book(record),
+        Record::OfQuery(record) => kind_of_query(record),
+    }
+}
+
+// The row whose body starts at a position.
+fn row(s: &[u8], body: usize) -> BookRecord
+    requires { ⌜ body + 25 ≤ length (now s) ⌝ }
+    ensures { λ r. ⌜ Record.OfBook r ≡ recordOf 4 (drop body (now (s .entry))) ⌝ }
+{
+    BookRecord::Row {
         object: byte_at(s, body),
         c0: word_at(s, body + 1),
         c1: word_at(s, body + 5),
@@ -168,11 +242,11 @@ fn row(s: &[u8], body: usize) -> Record
 }
 
 // The comparison table whose body starts at a position.
-fn comparisons(s: &[u8], body: usize) -> Record
+fn comparison_table(s: &[u8], body: usize) -> BookRecord
     requires { ⌜ body + 16 ≤ length (now s) ⌝ }
-    ensures { λ r. ⌜ r ≡ recordOf 13 (drop body (now (s .entry))) ⌝ }
+    ensures { λ r. ⌜ Record.OfBook r ≡ recordOf 13 (drop body (now (s .entry))) ⌝ }
 {
-    Record::Comparisons {
+    BookRecord::ComparisonTable {
         names: word_at(s, body),
         lengths: word_at(s, body + 4),
         angles: word_at(s, body + 8),
@@ -212,59 +286,59 @@ pub fn masks_of(names: u32, lengths: u32, angles: u32, dates: u32) -> [u8; 16]
 }
 
 // The record of a kind of a book whose body starts at a position.
-fn book_record(s: &[u8], kind: u8, body: usize) -> Record
+fn book_record(s: &[u8], kind: u8, body: usize) -> BookRecord
     requires { ⌜ (ofBook kind ≡ true) × (body + bodyLength kind ≤ length (now s)) ⌝ }
-    ensures { λ r. ⌜ r ≡ recordOf kind (drop body (now (s .entry))) ⌝ }
+    ensures { λ r. ⌜ Record.OfBook r ≡ recordOf kind (drop body (now (s .entry))) ⌝ }
 {
     match kind {
-        1 => Record::Attribute {
+        1 => BookRecord::Attribute {
             id: byte_at(s, body),
             kind: byte_at(s, body + 1),
         },
-        2 => Record::Object {
+        2 => BookRecord::Object {
             number: byte_at(s, body),
             set: word_at(s, body + 1),
         },
-        3 => Record::Dependency {
+        3 => BookRecord::Dependency {
             left: word_at(s, body),
             right: word_at(s, body + 4),
         },
         4 => row(s, body),
-        5 => Record::Declared {
+        5 => BookRecord::Declared {
             set: word_at(s, body),
         },
-        6 => Record::Removed {
+        6 => BookRecord::Removed {
             set: word_at(s, body),
         },
-        13 => comparisons(s, body),
-        _ => Record::OnlyDeclared,
+        13 => comparison_table(s, body),
+        _ => BookRecord::OnlyDeclared,
     }
 }
 
 // The record of a kind of a query whose body starts at a position.
-fn query_record(s: &[u8], kind: u8, body: usize) -> Record
+fn query_record(s: &[u8], kind: u8, body: usize) -> QueryRecord
     requires { ⌜ (ofQuery kind ≡ true) × (body + bodyLength kind ≤ length (now s)) ⌝ }
-    ensures { λ r. ⌜ r ≡ recordOf kind (drop body (now (s .entry))) ⌝ }
+    ensures { λ r. ⌜ Record.OfQuery r ≡ recordOf kind (drop body (now (s .entry))) ⌝ }
 {
     match kind {
-        7 => Record::Item {
+        7 => QueryRecord::Item {
             variable: byte_at(s, body),
             attribute: byte_at(s, body + 1),
         },
-        8 => Record::CompareTwo {
+        8 => QueryRecord::CompareTwo {
             variable: byte_at(s, body),
             attribute: byte_at(s, body + 1),
             operator: byte_at(s, body + 2),
             variable2: byte_at(s, body + 3),
             attribute2: byte_at(s, body + 4),
         },
-        9 => Record::CompareConstant {
+        9 => QueryRecord::CompareConstant {
             variable: byte_at(s, body),
             attribute: byte_at(s, body + 1),
             operator: byte_at(s, body + 2),
             cell: word_at(s, body + 3),
         },
-        _ => Record::End,
+        _ => QueryRecord::End,
     }
 }
 
@@ -285,8 +359,8 @@ pub fn read(s: &[u8], at: usize) -> Reading
         return Reading::Short(kind);
     }
     if of_book(kind) {
-        Reading::Found(book_record(s, kind, body), body + len)
+        Reading::Found(Record::OfBook(book_record(s, kind, body)), body + len)
     } else {
-        Reading::Found(query_record(s, kind, body), body + len)
+        Reading::Found(Record::OfQuery(query_record(s, kind, body)), body + len)
     }
 }

@@ -11,7 +11,8 @@ use native.Mathlib.Omega.{arith}
 use lib.ListN.{length, getD, length-map}
 use Rattle.values.specs.Values.{inRange}
 use Rattle.records.specs.declared.Record.{Record}
-use Rattle.records.specs.declared.Record.the-variants.{End}
+use Rattle.records.specs.declared.Record.the-variants.{OfQuery}
+use Rattle.records.specs.declared.QueryRecord.the-variants.{End}
 use Rattle.records.proofs.Reader.{whole-readAt, found-after}
 use Rattle.relation.specs.Tables.{Row}
 use Rattle.scheme.specs.OfScheme.{maximalOf}
@@ -126,8 +127,9 @@ module _ (b q : List ℕ) (serial : ℕ) (z : numberOf b q serial ≡ 0) where
   pub read-some : (1 ≤ queryRead (read b) q .read) × (queryRead (read b) q .read ≤ length q)
   read-some =
       let (g, m, c) = known in
-      let (h, e) = Queries.number-means (read b .scheme) (maximalOf (read b .scheme)) q .ofWhole 0 (inl refl) .0 (g .1) in
-      let o : Query.Outcome = record { number = 0; records = e .passed ++ End ∷ []; read = e .next } in
+      let (h, e) =
+      Queries.number-means (read b .scheme) (maximalOf (read b .scheme)) q .ofWhole 0 (inl refl) .0 (g .1) in
+      let o : Query.Outcome = record { number = 0; records = e .passed ++ OfQuery End ∷ []; read = e .next } in
       let w : queryRead (read b) q ≡ o =
       Queries.read-exactly (read b .scheme) (maximalOf (read b .scheme)) q .exactly h o .1
       (answered (e .accepted) (e .atKindTen) (e .whole)) in

@@ -116,14 +116,15 @@ module _ (s : Scheme) where
 
   -- those that count
   abbrev counts : List ℕ
-  counts = counted (s .only) (computedOf s)
+  counts = counted (s .maximal .only) (computedOf s)
 
-  pub counted-list : {p : SetList} {n : ℕ} {l : List ℕ} → p ≡ packed (computedOf s) → n ≡ countingOf (s .only) (p .count)
+  pub counted-list : {p : SetList} {n : ℕ} {l : List ℕ} → p ≡ packed (computedOf s) → n
+      ≡ countingOf (s .maximal .only) (p .count)
       → l ≡ take n (p .sets) → l ≡ counts
-  counted-list {p} e q z = counted-by (s .only) p (found-list e refl) q z
+  counted-list {p} e q z = counted-by (s .maximal .only) p (found-list e refl) q z
 
   length-counts : length counts ≤ 32
-  length-counts = counted-few (s .only) (computedOf s) length-found
+  length-counts = counted-few (s .maximal .only) (computedOf s) length-found
 
   pub found-few : {l : List ℕ} → l ≡ counts → length l ≤ 32
   found-few e = subst (λ (x : List ℕ). length x ≤ 32) (sym e) length-counts
@@ -138,13 +139,14 @@ module _ (s : Scheme) where
       → p ≡ listed remaining
   rest-of e q t = t ∙ ap₂ (λ (x y : List ℕ). listed (removing x y)) e q
 
-  declared-few : {d : List ℕ} → length (s .declared) ≡ 8 → d ≡ declaredOf s → length d ≤ 8
-  declared-few {d} l e = omega (arith, ap length e, length-take (s .declarations) (s .declared))
+  declared-few : {d : List ℕ} → length (s .maximal .declared) ≡ 8 → d ≡ declaredOf s → length d ≤ 8
+  declared-few {d} l e = omega (arith, ap length e, length-take (s .maximal .declarations) (s .maximal .declared))
 
   rest-list : {p : ObjectList} → p ≡ listed remaining → setsOf p ≡ remaining
   rest-list e = listing-take (listed-listing e (omega (arith, rest-few)))
 
-  pub rest-room : {p : ObjectList} {d : List ℕ} → p ≡ listed remaining → length (s .declared) ≡ 8 → d ≡ declaredOf s
+  pub rest-room : {p : ObjectList} {d : List ℕ} → p ≡ listed remaining → length (s .maximal .declared) ≡ 8 → d
+      ≡ declaredOf s
       → HasRoom p (length d)
   rest-room e l q = record {
     whole = e ∙ ap listed (sym (rest-list e));
@@ -157,16 +159,16 @@ module _ (s : Scheme) where
   all-of e q t = t ∙ ap₂ (λ (x y : List ℕ). listed (adding x y)) (rest-list e) q
 
   -- at most 40 of them, read back out of their array
-  pub all-few : length (s .declared) ≡ 8 → length (maximalOf s) ≤ 40
+  pub all-few : length (s .maximal .declared) ≡ 8 → length (maximalOf s) ≤ 40
   unfolding maximalOf maximalObjects computedOf
   all-few l = omega (arith, length-adding remaining (declaredOf s), rest-few, declared-few l refl)
 
-  pub all-list : {a : ObjectList} {l : List ℕ} → a ≡ listed (maximalOf s) → length (s .declared) ≡ 8
+  pub all-list : {a : ObjectList} {l : List ℕ} → a ≡ listed (maximalOf s) → length (s .maximal .declared) ≡ 8
       → l ≡ take (a .count) (a .sets) → l ≡ maximalOf s
   all-list e h q = q ∙ listing-take (listed-listing e (all-few h))
 
   -- the two faults, and all of it
-  pub both-of : {u : Bool} → u ≡ bothKinds (s .only) (s .removals) → u ≡ bothOf s
+  pub both-of : {u : Bool} → u ≡ bothKinds (s .maximal .only) (s .maximal .removals) → u ≡ bothOf s
   unfolding bothOf
   both-of e = e
 

@@ -26,21 +26,21 @@ abbrev pub dependenciesOf : Scheme → List Dependency
 dependenciesOf s = pairs (s .dependencies) (s .left) (s .right)
 
 abbrev pub declaredOf : Scheme → List ℕ
-declaredOf s = take (s .declarations) (s .declared)
+declaredOf s = take (s .maximal .declarations) (s .maximal .declared)
 
 abbrev pub removedOf : Scheme → List ℕ
-removedOf s = take (s .removals) (s .removed)
+removedOf s = take (s .maximal .removals) (s .maximal .removed)
 
 -- the computed maximal objects of a scheme, and the list of its maximal objects
 unfoldable pub computedOf : Scheme → List ℕ
 computedOf s = computed (dependenciesOf s) (s .sets) (s .objects)
 
 unfoldable pub maximalOf : Scheme → List ℕ
-maximalOf s = maximalObjects (dependenciesOf s) (s .sets) (s .objects) (s .only) (declaredOf s) (removedOf s)
+maximalOf s = maximalObjects (dependenciesOf s) (s .sets) (s .objects) (s .maximal .only) (declaredOf s) (removedOf s)
 
 -- the faults 21 and 9
 unfoldable pub bothOf : Scheme → Bool
-bothOf s = bothKinds (s .only) (s .removals)
+bothOf s = bothKinds (s .maximal .only) (s .maximal .removals)
 
 unfoldable pub cyclicOf : Scheme → Bool
 cyclicOf s = someCyclic (s .sets) (maximalOf s)

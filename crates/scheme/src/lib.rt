@@ -20,10 +20,26 @@ use sets::AttributeSet;
 use sets::OBJECTS;
 use sets::ObjectSet;
 
-// What a book declares: the value kind of each attribute, the set of each object, the dependencies, the declared
-// maximal objects (kind 5) and those to be removed (kind 6), each array beside its count or the set of what is
-// declared; whether only declared maximal objects count (kind 14); the comparison table, and how many the book has
-// (kind 13). Places that nothing was declared for are 0.
+// What the records of kinds 5, 6 and 14 say of maximal objects: those declared and those to be removed, each array
+// beside its count, and whether only declared ones count. Places behind the counts are 0.
+pub struct MaximalRecords {
+    pub declared: [ObjectSet; 8],
+    pub declarations: usize,
+    pub removed: [ObjectSet; 8],
+    pub removals: usize,
+    pub only: bool,
+}
+
+// The comparison table of a book: its masks, and how many records of kind 13 gave one. Where none did, the masks are
+// those of the built-in table.
+pub struct TableOfMasks {
+    pub masks: [u8; 16],
+    pub given: usize,
+}
+
+// What a book declares: the value kind of each attribute, the set of each object, the dependencies, each array beside
+// its count or the set of what is declared; what it says of maximal objects; its comparison table. Places that nothing
+// was declared for are 0.
 pub struct Scheme {
     pub kinds: [u8; ATTRIBUTES as usize],
     pub attributes: AttributeSet,
@@ -32,13 +48,8 @@ pub struct Scheme {
     pub left: [AttributeSet; 64],
     pub right: [AttributeSet; 64],
     pub dependencies: usize,
-    pub declared: [ObjectSet; 8],
-    pub declarations: usize,
-    pub removed: [ObjectSet; 8],
-    pub removals: usize,
-    pub only: bool,
-    pub table: [u8; 16],
-    pub tables: usize,
+    pub maximal: MaximalRecords,
+    pub table: TableOfMasks,
 }
 
 // The first n of a list, or the whole list where it has fewer: a list in an array, without the places behind it.
@@ -348,11 +359,11 @@ pub fn maximal_objects(s: Scheme) -> MaximalList
     ensures { λ r. ⌜ r ≡ maximalListOf s ⌝ }
 {
     let found = computed(s);
-    let list = first(&found.sets, counting(s.only, found.count));
-    let removed = first(&s.removed, s.removals);
+    let list = first(&found.sets, counting(s.maximal.only, found.count));
+    let removed = first(&s.maximal.removed, s.maximal.removals);
     let rest = without_removed(list, removed);
-    let both = both_kinds(s.only, s.removals);
-    let all = with_declared(rest, first(&s.declared, s.declarations));
+    let both = both_kinds(s.maximal.only, s.maximal.removals);
+    let all = with_declared(rest, first(&s.maximal.declared, s.maximal.declarations));
     let cyclic = some_cyclic(&s.sets, first(&all.sets, all.count));
     let sets = all.sets;
     MaximalList {

@@ -151,7 +151,7 @@ module _ (b : List ℕ) where
   maximal-objects-computed = maximal-objects-read b .computed
 
   pub maximal-objects-list : MaximalObjectList (dependenciesOf (read b .scheme)) (read b .scheme .sets) (read b
-      .scheme .objects) (read b .scheme .only) (declaredOf (read b .scheme)) (removedOf (read b .scheme))
+      .scheme .objects) (read b .scheme .maximal .only) (declaredOf (read b .scheme)) (removedOf (read b .scheme))
   maximal-objects-list = maximal-objects-read b .list
 
 -- what these four say, by their fields, for dependencies D, objects and their sets

@@ -9,14 +9,15 @@ use Rattle.sets.specs.Sets.{bit, has, within, _∩_, _∪_, _∖_, single, isEm
 use Rattle.values.specs.Values.{missing, inRange}
 use Rattle.records.specs.Fields.{bytes, value, field}
 use Rattle.records.specs.Records.{kinds, whose, isKind, ofBook, ofQuery, bodyLength, kindOf}
-use Rattle.records.specs.Records.{bytesOf, bytesOfAll}
+use Rattle.records.specs.Records.{bytesOf, bytesOfAll, bytesOfBook, bytesOfQuery}
 use Rattle.records.specs.Reader.{bodies, recordOf, readFront, readAt}
 use Rattle.records.specs.Checks.{firstOf}
 use Rattle.records.specs.Walking.{shortNumber, walkFrom, walk}
-use Rattle.records.specs.declared.Record.{Record}
-use Rattle.records.specs.declared.Record.the-variants.{Attribute, Object, Dependency, Row, Declared, Removed}
-use Rattle.records.specs.declared.Record.the-variants.{Comparisons, OnlyDeclared, Item, CompareTwo, CompareConstant}
-use Rattle.records.specs.declared.Record.the-variants.{End}
+use Rattle.records.specs.declared.BookRecord.{BookRecord}
+use Rattle.records.specs.declared.QueryRecord.{QueryRecord}
+use Rattle.records.specs.declared.BookRecord.the-variants.{Attribute, Object, Dependency, Row, Declared, Removed}
+use Rattle.records.specs.declared.BookRecord.the-variants.{ComparisonTable, OnlyDeclared}
+use Rattle.records.specs.declared.QueryRecord.the-variants.{Item, CompareTwo, CompareConstant, End}
 use Rattle.reduction.specs.Kept.{union, around, someHolds, removable, stays, staying, settle, left, acyclic}
 use Rattle.reduction.specs.Kept.{goesFor, goes, keeps, keptOf, kept}
 use Rattle.relation.specs.Tables.{cellOf}
@@ -28,7 +29,7 @@ use Rattle.scheme.specs.OfScheme.{pairs, computedOf, maximalOf, bothOf, cyclicO
 use Rattle.book.specs.Faults.{someNonZero, someOutside, wrongCells, rowChecks, maximalChecks, checks}
 use Rattle.book.specs.Faults.{faultOf}
 use Rattle.book.specs.Declaring.{nothingDeclared, withAttribute, withObject, withDependency, withDeclared, withRemoved}
-use Rattle.book.specs.Declaring.{withTable, withOnly, declare}
+use Rattle.book.specs.Declaring.{withMaximal, withTable, withOnly, withMasks, declare}
 use Rattle.book.specs.Reading.{Outcome, isRow, withRow, records, lastNumber, lastFault, afterLast}
 use Rattle.book.specs.Reading.{read}
 use Rattle.book.specs.Reading.{maximalsOf}
@@ -63,21 +64,21 @@ use Rattle.run.specs.Running.{fullText, answersWithin, answers, printout}
 -- "Document 000's banking scheme, seven objects in the order of its example 3": 0 BANK, 1 ACCT, 2 BALANCE, 3 CUST, 4
 -- ADDR, 5 LOAN, 6 AMT; objects ACCT-BALANCE, ACCT-CUST, ACCT-BANK, CUST-ADDR, CUST-LOAN, LOAN-BANK, LOAN-AMT;
 -- dependencies ACCT to BANK, ACCT to BALANCE, LOAN to AMT, CUST to ADDR
-unfoldable pub banking : List Record
+unfoldable pub banking : List BookRecord
 banking =
     Attribute 0 0 ∷ Attribute 1 0 ∷ Attribute 2 1 ∷ Attribute 3 0 ∷ Attribute 4 0 ∷ Attribute 5 0 ∷ Attribute 6 1
     ∷ Object 0 6 ∷ Object 1 10 ∷ Object 2 3 ∷ Object 3 24 ∷ Object 4 40 ∷ Object 5 33 ∷ Object 6 96
     ∷ Dependency 2 1 ∷ Dependency 2 4 ∷ Dependency 32 64 ∷ Dependency 8 16 ∷ []
 
 -- the number that a book is refused with or 0, and how many objects each maximal object has
-unfoldable pub sizes : List Record → List ℕ
-sizes rs = let o : Outcome = read (bytesOfAll rs) in o .number ∷ map (count 32) (maximalsOf o)
+unfoldable pub sizes : List BookRecord → List ℕ
+sizes rs = let o : Outcome = read (bytesOfBook rs) in o .number ∷ map (count 32) (maximalsOf o)
 
 -- the number that a query over a book is refused with, or 0
-unfoldable pub refusal : List Record → List Record → List ℕ
+unfoldable pub refusal : List BookRecord → List QueryRecord → List ℕ
 refusal book query =
-    let o : Outcome = read (bytesOfAll book) in
-    Query.read (o .scheme) (maximalsOf o) (bytesOfAll query) .number ∷ []
+    let o : Outcome = read (bytesOfBook book) in
+    Query.read (o .scheme) (maximalsOf o) (bytesOfQuery query) .number ∷ []
 
 -- ---- the trials
 
@@ -102,7 +103,7 @@ output =
 
 unfoldable pub starred : List Trial
 starred =
-    record { gives = printout (bytesOfAll survey) queries; says = output }  -- "The three queries above."
+    record { gives = printout (bytesOfBook survey) queries; says = output }  -- "The three queries above."
     ∷ record { gives = kept 6 (3 ∷ 5 ∷ 9 ∷ []); says = 3 ∷ 5 ∷ [] }  -- "Sacred {1,2} keeps {0,1} and {0,2}."
     ∷ record { gives = kept 1 (3 ∷ 5 ∷ 9 ∷ []); says = 1 ∷ [] }  -- "Sacred {0} keeps {0}."
     ∷ record { gives = sizes (banking ++ Dependency 32 1 ∷ []); says = 0 ∷ 4 ∷ 4 ∷ [] }  -- "two maximal objects of four"
@@ -120,12 +121,12 @@ starred =
 -- ---- runs of the unit, by request 8
 
 -- attributes 0 and 1, objects 0 {0} and 1 {1} with a row each, no dependency: two computed maximal objects, of one object
-unfoldable pub apart : List Record
+unfoldable pub apart : List BookRecord
 apart = Attribute 0 0 ∷ Attribute 1 0 ∷ Object 0 1 ∷ Object 1 2 ∷ Row 0 7 0 0 0 0 0 ∷ Row 1 9 0 0 0 0 0 ∷ []
 
 -- what the unit prints with these records behind them, for a query of attribute 0, then one of both attributes
-unfoldable pub run : List Record → List ℕ
-run rs = printout (bytesOfAll (apart ++ rs)) (bytesOfAll (Item 0 0 ∷ End ∷ Item 0 0 ∷ Item 0 1 ∷ End ∷ []))
+unfoldable pub run : List BookRecord → List ℕ
+run rs = printout (bytesOfBook (apart ++ rs)) (bytesOfQuery (Item 0 0 ∷ End ∷ Item 0 0 ∷ Item 0 1 ∷ End ∷ []))
 
 -- "Q 1 rows 1" and "7"
 unfoldable pub first : List ℕ
@@ -167,24 +168,24 @@ runs =
 -- ---- runs of the unit, by request 7
 
 -- attributes 0, a name, and 1, a date; object 0 of both, with a row whose name is its date and one where it is not
-unfoldable pub dated : List Record
+unfoldable pub dated : List BookRecord
 dated = Attribute 0 0 ∷ Attribute 1 3 ∷ Object 0 3 ∷ Row 0 7 7 0 0 0 0 ∷ Row 0 8 9 0 0 0 0 ∷ []
 
 -- the built-in table, with all six operators between names and dates
-unfoldable pub club : Record
-club = Comparisons 1056964611 16128 196608 1056964671
+unfoldable pub club : BookRecord
+club = ComparisonTable 1056964611 16128 196608 1056964671
 
 -- what the unit prints with these records behind them, for the names that equal their dates
-unfoldable pub asked : List Record → List ℕ
+unfoldable pub asked : List BookRecord → List ℕ
 asked rs =
-    printout (bytesOfAll (dated ++ rs)) (bytesOfAll (Item 0 0 ∷ CompareTwo 0 0 0 0 1 ∷ End ∷ []))
+    printout (bytesOfBook (dated ++ rs)) (bytesOfQuery (Item 0 0 ∷ CompareTwo 0 0 0 0 1 ∷ End ∷ []))
 
 unfoldable pub datedRuns : List Trial
 datedRuns =
     record { gives = asked []; says = refused (49 ∷ 49 ∷ []) }  -- the built-in table: 11
     ∷ record { gives = asked (club ∷ []); says = first }  -- the club's
     -- dates without their mirrors, 20; two tables, 4
-    ∷ record { gives = asked (Comparisons 1056964611 16128 196608 1056964608 ∷ []); says = stopped (50 ∷ 48 ∷ []) }
+    ∷ record { gives = asked (ComparisonTable 1056964611 16128 196608 1056964608 ∷ []); says = stopped (50 ∷ 48 ∷ []) }
     ∷ record { gives = asked (club ∷ club ∷ []); says = stopped (52 ∷ []) }
     ∷ []
 
@@ -192,16 +193,16 @@ datedRuns =
 
 -- attributes 0, a name, 1, a length, and 2, a date; objects 0 {0, 1} and 1 {0, 2}, each with a row that nobody noted
 -- and one of name 7; both in one maximal object
-unfoldable pub gaps : List Record
+unfoldable pub gaps : List BookRecord
 gaps =
     Attribute 0 0 ∷ Attribute 1 1 ∷ Attribute 2 3 ∷ Object 0 3 ∷ Object 1 5 ∷ Declared 3
     ∷ Row 0 7 9 0 0 0 0 ∷ Row 0 4294967295 2147483648 0 0 0 0 ∷ Row 1 4294967295 4294967295 0 0 0 0 ∷ Row 1 7 8 0 0 0 0
     ∷ []
 
 -- lengths and dates; names and lengths; lengths unequal to 5; then one query more
-unfoldable pub noting : Record → List ℕ
+unfoldable pub noting : QueryRecord → List ℕ
 noting r =
-    printout (bytesOfAll gaps) (bytesOfAll
+    printout (bytesOfBook gaps) (bytesOfQuery
     (Item 0 1 ∷ Item 0 2 ∷ End
     ∷ Item 0 0 ∷ Item 0 1 ∷ End
     ∷ Item 0 1 ∷ CompareConstant 0 1 1 5 ∷ End
@@ -235,7 +236,7 @@ all-hold :
     × (map (λ t. t .gives) datedRuns ≡ map (λ t. t .says) datedRuns)
     × (map (λ t. t .gives) gapRuns ≡ map (λ t. t .says) gapRuns)
 unfolding gapRuns noted noting gaps datedRuns asked club dated refused keepsRules entryKeeps everyBelow mirrored
-    withTable runs run apart first second twelve stopped output queries printout answers answersWithin fullText headLine
+    withTable withMasks runs run apart first second twelve stopped output queries printout answers answersWithin fullText headLine
     rowLines cellTexts line behind bookRefused queryRefused cellText valueText integerText decimal decimalWithin number
     spaceNumber rowsOf answerRows itemKinds choices inFront rowsFor cellsOf allTrue isTrue rightCell itemCells
     Answers.rowsOf connection parts insertRows insertRow lessRow tablesOf Tables.rowsOf Tables.rowOf Tables.cellsOf part
@@ -243,7 +244,7 @@ unfolding gapRuns noted noting gaps datedRuns asked club dated refused keepsRule
     matches lessCell valueOf signed refusal Query.read atEnd wholeNumber someUnconnected unconnected isNil containing
     walkQuery isEnd Queries.faultOf Queries.checks ofQuery askedOf filled attributesNamed naming namesOf nameOf
     comparisonsOf comparisonOf itemsOf itemOf allows builtIn starred banking sizes survey ring read afterLast lastFault
-    lastNumber records walk walkFrom shortNumber withRow isRow maximalsOf declare withOnly withRemoved withDeclared
+    lastNumber records walk walkFrom shortNumber withRow isRow maximalsOf declare withMaximal withOnly withRemoved withDeclared
     withDependency withObject withAttribute nothingDeclared faultOf checks maximalChecks rowChecks wrongCells
     someOutside someNonZero firstOf ofBook cyclicOf bothOf maximalOf computedOf pairs someCyclic counted bothKinds
     maximalObjects adding removing isOne computed grown rounds holding joins attributesOf familyOf closure passes pass

@@ -1,8 +1,7 @@
--- `book::fault` meets its contract: in each arm the record is of that kind. Assumes nothing.
+-- `book::fault` meets its contract: a record of a book has its own fault, one of a query the fault 2. Assumes nothing.
 use mathlib.Core.Path.{ap, sym, _∙_}
 use Rattle.records.specs.Checks.{firstOf}
 use Rattle.book.specs.Faults.{checks, faultOf}
-use Rattle.book.proofs.Declaring.{not-of-a-book}
 use borrow.Author.Needs.{needs}
 use Rattle.book.proofs.fault.Statement.{statement}
 use Rattle.book.proofs.fault.Tie as tie
@@ -10,118 +9,20 @@ use Rattle.book.proofs.fault.Tie as tie
 enum-known-r : tie.Need-enum-known-r
 enum-known-r c = search needs
 
-attribute-fault-requires : tie.Need-attribute-fault-requires
-attribute-fault-requires c κs = search needs
-
-enum-known-r-2 : tie.Need-enum-known-r-2
-enum-known-r-2 c = search needs
-
-object-fault-requires : tie.Need-object-fault-requires
-object-fault-requires c κs = search needs
-
-enum-known-r-3 : tie.Need-enum-known-r-3
-enum-known-r-3 c = search needs
-
-dependency-fault-requires : tie.Need-dependency-fault-requires
-dependency-fault-requires c κs = search needs
-
-enum-known-r-4 : tie.Need-enum-known-r-4
-enum-known-r-4 c = search needs
-
-row-fault-requires : tie.Need-row-fault-requires
-row-fault-requires c κs = search needs
-
-enum-known-r-5 : tie.Need-enum-known-r-5
-enum-known-r-5 c = search needs
-
-maximal-fault-requires : tie.Need-maximal-fault-requires
-maximal-fault-requires c κs = search needs
-
-enum-known-r-6 : tie.Need-enum-known-r-6
-enum-known-r-6 c = search needs
-
-maximal-fault-requires-2 : tie.Need-maximal-fault-requires-2
-maximal-fault-requires-2 c κs = search needs
-
-enum-known-r-7 : tie.Need-enum-known-r-7
-enum-known-r-7 c = search needs
-
-table-fault-requires : tie.Need-table-fault-requires
-table-fault-requires c κs = search needs
+book-fault-requires : tie.Need-book-fault-requires
+book-fault-requires c κs = search needs
 
 enum-told : tie.Need-enum-told
 enum-told c = search needs
 
 returns : tie.Need-returns
 returns c =
-    c .attribute-fault .ensures ∙ ap (faultOf (c .before .before .before .before .args .s)) (sym (c .before .before .r
+    c .book-fault .ensures ∙ ap (faultOf (c .before .before .before .before .args .s)) (sym (c .before .before .r
     .given .1))
 
 returns-2 : tie.Need-returns-2
-returns-2 c =
-    c .object-fault .ensures ∙ ap (faultOf (c .before .before .before .before .args .s)) (sym (c .before .before .r2
-    .given .1))
-
-returns-3 : tie.Need-returns-3
-returns-3 c =
-    c .dependency-fault .ensures ∙ ap (faultOf (c .before .before .before .before .args .s)) (sym (c .before .before
-    .r3 .given .1))
-
-returns-4 : tie.Need-returns-4
-unfolding faultOf checks
-returns-4 c =
-    c .row-fault .ensures ∙ ap (faultOf (c .before .before .before .before .args .s)) (sym (c .before .before .r4
-    .given .1))
-
-returns-5 : tie.Need-returns-5
-unfolding faultOf checks
-returns-5 c =
-    c .maximal-fault .ensures ∙ ap (faultOf (c .before .before .before .before .args .s)) (sym (c .before .before .r5
-    .given .1))
-
-returns-6 : tie.Need-returns-6
-unfolding faultOf checks
-returns-6 c =
-    c .maximal-fault2 .ensures ∙ ap (faultOf (c .before .before .before .before .args .s)) (sym (c .before .before .r6
-    .given .1))
-
-returns-7 : tie.Need-returns-7
-returns-7 c =
-    c .table-fault .ensures ∙ ap (faultOf (c .before .before .before .before .args .s)) (sym (c .before .before .r7
-    .given .1))
-
-returns-8 : tie.Need-returns-8
 unfolding faultOf checks firstOf
-returns-8 c = ap (faultOf (c .before .before .args .s)) (sym (c .enum-told .given .1))
-
-returns-9 : tie.Need-returns-9
-returns-9 c = not-of-a-book _ _ (c .match .keys9)
+returns-2 c = ap (faultOf (c .before .before .args .s)) (sym (c .enum-told .given .1))
 
 pub fault-spec : {M : Type 1} → statement M
-fault-spec =
-    tie.close
-    (tie.spec
-    enum-known-r
-    attribute-fault-requires
-    enum-known-r-2
-    object-fault-requires
-    enum-known-r-3
-    dependency-fault-requires
-    enum-known-r-4
-    row-fault-requires
-    enum-known-r-5
-    maximal-fault-requires
-    enum-known-r-6
-    maximal-fault-requires-2
-    enum-known-r-7
-    table-fault-requires
-    enum-told
-    returns
-    returns-2
-    returns-3
-    returns-4
-    returns-5
-    returns-6
-    returns-7
-    returns-8
-    returns-9)
+fault-spec = tie.close (tie.spec enum-known-r book-fault-requires enum-told returns returns-2)

@@ -1,22 +1,22 @@
 -- `book::with_declared` meets its contract: the two changed fields are those of the definition. Assumes nothing.
 use mathlib.Core.Path.{refl}
-use Rattle.book.specs.Declaring.{withDeclared}
+use Rattle.book.specs.Declaring.{withMaximal, withDeclared}
 use borrow.Author.Needs.{needs}
 use Rattle.book.proofs.with_declared.Statement.{statement}
 use Rattle.book.proofs.with_declared.Tie as tie
 
-mul-s : tie.Need-mul-s
-mul-s c = search needs
+mul-m : tie.Need-mul-m
+mul-m c = search needs
 
-element-write-s : tie.Need-element-write-s
-element-write-s c = search needs
+element-write-m : tie.Need-element-write-m
+element-write-m c = search needs
 
-add-s : tie.Need-add-s
-add-s c = search needs
+add-m : tie.Need-add-m
+add-m c = search needs
 
 returns : tie.Need-returns
-unfolding withDeclared
+unfolding withMaximal withDeclared
 returns c = refl
 
 pub with-declared-spec : {M : Type 1} → statement M
-with-declared-spec = tie.close (tie.spec mul-s element-write-s add-s returns)
+with-declared-spec = tie.close (tie.spec mul-m element-write-m add-m returns)

@@ -1,59 +1,30 @@
--- `query::fault` meets its contract: in each arm the record is of that kind. Assumes nothing.
-use Rattle.query.proofs.Faulting.{end-right, not-of-a-query}
-use Rattle.query.proofs.Asking.{of-variant}
+-- `query::fault` meets its contract: a record of a query has its own fault, one of a book the fault 2. Assumes nothing.
+use mathlib.Core.Path.{ap, sym, _∙_}
+use Rattle.records.specs.Checks.{firstOf}
+use Rattle.query.specs.Faults.{checks, faultOf}
 use borrow.Author.Needs.{needs}
 use Rattle.query.proofs.fault.Statement.{statement}
 use Rattle.query.proofs.fault.Tie as tie
 
-enum-known-r : tie.Need-enum-known-r
-enum-known-r c = search needs
-
-item-fault-requires : tie.Need-item-fault-requires
-item-fault-requires c κs = search needs
-
-enum-known-r-2 : tie.Need-enum-known-r-2
-enum-known-r-2 c = search needs
-
-two-fault-requires : tie.Need-two-fault-requires
-two-fault-requires c κs = search needs
-
-enum-known-r-3 : tie.Need-enum-known-r-3
-enum-known-r-3 c = search needs
-
-constant-fault-requires : tie.Need-constant-fault-requires
-constant-fault-requires c κs = search needs
-
 enum-told : tie.Need-enum-told
 enum-told c = search needs
 
+enum-known-r : tie.Need-enum-known-r
+enum-known-r c = search needs
+
+query-fault-requires : tie.Need-query-fault-requires
+query-fault-requires c κs = search needs
+
 returns : tie.Need-returns
-returns c = search (needs, of-variant)
+unfolding faultOf checks firstOf
+returns c =
+    let a = c .before .before .args in
+    ap (faultOf (a .s) (a .retrieved) (a .compared)) (sym (c .enum-told .given .1))
 
 returns-2 : tie.Need-returns-2
-returns-2 c = search (needs, of-variant)
-
-returns-3 : tie.Need-returns-3
-returns-3 c = search (needs, of-variant)
-
-returns-4 : tie.Need-returns-4
-returns-4 c = of-variant _ _ _ (end-right _ _ _) (c .enum-told .given .1)
-
-returns-5 : tie.Need-returns-5
-returns-5 c = not-of-a-query _ _ _ _ (c .match .keys5)
+returns-2 c =
+    let a = c .before .before .before .before .args in
+    c .query-fault .ensures ∙ ap (faultOf (a .s) (a .retrieved) (a .compared)) (sym (c .before .before .r .given .1))
 
 pub fault-spec : {M : Type 1} → statement M
-fault-spec =
-    tie.close
-    (tie.spec
-    enum-known-r
-    item-fault-requires
-    enum-known-r-2
-    two-fault-requires
-    enum-known-r-3
-    constant-fault-requires
-    enum-told
-    returns
-    returns-2
-    returns-3
-    returns-4
-    returns-5)
+fault-spec = tie.close (tie.spec enum-told enum-known-r query-fault-requires returns returns-2)

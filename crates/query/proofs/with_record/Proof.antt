@@ -1,55 +1,31 @@
--- `query::with_record` meets its contract: a record without a fault has a place for what it adds. Assumes nothing.
-use Rattle.query.proofs.Asking.{item-room, item-named, two-fits, constant-fits, with-item-record, with-variant}
-use Rattle.query.proofs.Asking.{adds-nothing}
+-- `query::with_record` meets its contract: a record of a query adds its own, one of a book nothing. Assumes nothing.
+use mathlib.Core.Path.{ap, sym, _∙_}
+use Rattle.query.specs.Asking.{withRecord}
+use Rattle.query.specs.Faults.{faultOf}
 use borrow.Author.Needs.{needs}
 use Rattle.query.proofs.with_record.Statement.{statement}
 use Rattle.query.proofs.with_record.Tie as tie
 
+enum-told : tie.Need-enum-told
+enum-told c = search needs
+
 enum-known-r : tie.Need-enum-known-r
 enum-known-r c = search needs
 
-with-item-requires : tie.Need-with-item-requires
-with-item-requires c κs = item-room _ _ _ (c .before .before .before .pre) _ _ (c .before .r .given .1)
-
-with-name-requires : tie.Need-with-name-requires
-with-name-requires c κs = item-named _ _ _ (c .before .before .before .before .pre) _ _ (c .before .before .r .given .1)
-
-enum-known-r-2 : tie.Need-enum-known-r-2
-enum-known-r-2 c = search needs
-
-with-two-requires : tie.Need-with-two-requires
-with-two-requires c κs = two-fits _ _ _ (c .before .before .before .pre) _ _ _ _ _ (c .before .r2 .given .1)
-
-enum-known-r-3 : tie.Need-enum-known-r-3
-enum-known-r-3 c = search needs
-
-with-constant-requires : tie.Need-with-constant-requires
-with-constant-requires c κs = constant-fits _ _ _ (c .before .before .before .pre) _ _ _ _ (c .before .r3 .given .1)
+with-query-record-requires : tie.Need-with-query-record-requires
+with-query-record-requires c κs =
+    let a = c .before .before .before .args in
+    ap (faultOf (a .s) (a .q .retrieved) (a .q .compared)) (sym (c .before .r .given .1))
+    ∙ c .before .before .before .pre
 
 returns : tie.Need-returns
-returns c = search (needs, with-item-record)
+unfolding withRecord
+returns c = ap (withRecord (c .before .before .args .q)) (sym (c .enum-told .given .1))
 
 returns-2 : tie.Need-returns-2
-returns-2 c = search (needs, with-variant)
-
-returns-3 : tie.Need-returns-3
-returns-3 c = search (needs, with-variant)
-
-returns-4 : tie.Need-returns-4
-returns-4 c = adds-nothing _ _ (c .match .keys4)
+returns-2 c =
+    c .with-query-record .ensures ∙ ap (withRecord (c .before .before .before .before .args .q)) (sym (c .before
+    .before .r .given .1))
 
 pub with-record-spec : {M : Type 1} → statement M
-with-record-spec =
-    tie.close
-    (tie.spec
-    enum-known-r
-    with-item-requires
-    with-name-requires
-    enum-known-r-2
-    with-two-requires
-    enum-known-r-3
-    with-constant-requires
-    returns
-    returns-2
-    returns-3
-    returns-4)
+with-record-spec = tie.close (tie.spec enum-told enum-known-r with-query-record-requires returns returns-2)

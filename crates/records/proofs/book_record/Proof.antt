@@ -54,9 +54,9 @@ word-at-requires-5 : tie.Need-word-at-requires-5
 unfolding bodyLength kinds
 word-at-requires-5 c κs = omega (arith, ap bodyLength (c .match .keys6))
 
-comparisons-requires : tie.Need-comparisons-requires
+comparison-table-requires : tie.Need-comparison-table-requires
 unfolding bodyLength kinds
-comparisons-requires c κs = omega (arith, ap bodyLength (c .match .keys7))
+comparison-table-requires c κs = omega (arith, ap bodyLength (c .match .keys7))
 
 returns : tie.Need-returns
 returns c = search (needs, attribute-at)
@@ -77,7 +77,7 @@ returns-6 : tie.Need-returns-6
 returns-6 c = search (needs, removed-at)
 
 returns-7 : tie.Need-returns-7
-returns-7 c = rw (c .before .match .keys7) (c .comparisons .ensures)
+returns-7 c = rw (c .before .match .keys7) (c .comparison-table .ensures)
 
 returns-8 : tie.Need-returns-8
 returns-8 c =
@@ -103,7 +103,7 @@ book-record-spec =
     row-requires
     word-at-requires-4
     word-at-requires-5
-    comparisons-requires
+    comparison-table-requires
     returns
     returns-2
     returns-3

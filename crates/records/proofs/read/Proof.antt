@@ -51,8 +51,8 @@ of-book-requires c κs = search needs
 book-record-requires : tie.Need-book-record-requires
 book-record-requires c κs = (sym (c .before .of-book .ensures) ∙ c .if4 .taken, omega arith)
 
-add-t15 : tie.Need-add-t15
-add-t15 c = search needs
+add-t16 : tie.Need-add-t16
+add-t16 c = search needs
 
 query-record-requires : tie.Need-query-record-requires
 query-record-requires c κs =
@@ -60,8 +60,8 @@ query-record-requires c κs =
     let kind = finds-kind _ _ (known .before .is-kind .ensures) (known .if2 .left) in
     (other-kind _ kind (sym (c .before .of-book .ensures) ∙ c .if4 .left), omega arith)
 
-add-t17 : tie.Need-add-t17
-add-t17 c = search needs
+add-t19 : tie.Need-add-t19
+add-t19 c = search needs
 
 returns-4 : tie.Need-returns-4
 returns-4 c = search (needs, finds-record)
@@ -83,8 +83,8 @@ read-spec =
     returns-3
     of-book-requires
     book-record-requires
-    add-t15
+    add-t16
     query-record-requires
-    add-t17
+    add-t19
     returns-4
     returns-5)

@@ -1,9 +1,9 @@
--- `records::comparisons` meets its contract: its fields are those of kind 13 (`comparisons-at`).
+-- `records::comparison_table` meets its contract: its fields are those of kind 13 (`comparison-table-at`).
 -- Assumes nothing.
 use borrow.Author.Needs.{needs}
-use Rattle.records.proofs.Records.{comparisons-at}
-use Rattle.records.proofs.comparisons.Statement.{statement}
-use Rattle.records.proofs.comparisons.Tie as tie
+use Rattle.records.proofs.Records.{comparison-table-at}
+use Rattle.records.proofs.comparison_table.Statement.{statement}
+use Rattle.records.proofs.comparison_table.Tie as tie
 
 word-at-requires : tie.Need-word-at-requires
 word-at-requires c κs = search needs
@@ -27,10 +27,10 @@ word-at-requires-4 : tie.Need-word-at-requires-4
 word-at-requires-4 c κs = search needs
 
 returns : tie.Need-returns
-returns c = search (needs, comparisons-at)
+returns c = search (needs, comparison-table-at)
 
-pub comparisons-spec : {M : Type 1} → statement M
-comparisons-spec =
+pub comparison-table-spec : {M : Type 1} → statement M
+comparison-table-spec =
     tie.close
     (tie.spec
     word-at-requires
