@@ -18,7 +18,7 @@ use Rattle.sets.proofs.Tests.{yes-no, yes-and, no-and, yes-or, no-or}
 use Rattle.sets.proofs.Bits.{in-out}
 use Rattle.sets.proofs.Sets.{yes-has, no-has}
 use Rattle.values.specs.Values.{inRange}
-use Rattle.values.specs.Table.{Rules, keepsRules}
+use Rattle.values.specs.Table.{TableRules, keepsRules}
 use Rattle.values.proofs.Table.{rules-tested}
 use Rattle.records.specs.Records.{masksOf}
 use Rattle.records.specs.Checks.{First}
@@ -135,7 +135,7 @@ maximal-agrees : (s : Scheme) (n set : ℕ) → Agree (maximalChecks s n set) (m
 unfolding maximalChecks maximalConditions
 maximal-agrees s n set = next (same-le 8 n) (next (same-empty set) (next (same-not-within set (s .objects)) ended))
 
-same-rules : (table : List ℕ) → Same (not (keepsRules table)) (Rules table → ⊥)
+same-rules : (table : List ℕ) → Same (not (keepsRules table)) (TableRules table → ⊥)
 same-rules table = record {
   yes = λ e r. yes-no (rules-tested table .1 r) (not-true (keepsRules table) e);
   no = λ e n. n (rules-tested table .0 (not-false (keepsRules table) e));

@@ -12,7 +12,7 @@ use lib.Dec.{ltb, leb}
 use lib.ListN.{getD}
 use types.Run.{OneOf, miss}
 use denote.Enum.Declared.{tagOf}
-use Rattle.values.specs.Table.{Rules, keepsRules}
+use Rattle.values.specs.Table.{TableRules, keepsRules}
 use Rattle.values.proofs.Table.{rules-tested}
 use Rattle.records.specs.Checks.{firstOf}
 use Rattle.records.specs.Records.{ofBook, kindOf, masksOf}
@@ -155,7 +155,7 @@ row-accepted s object c0 c1 c2 c3 c4 c5 e =
 -- "Book kind 13, at most one", which keeps the rules
 pub record NewTable (s : Scheme) (names lengths angles dates : ℕ) : Type 0 where
   pub room : s .table .given < 1
-  pub rules : Rules (masksOf names lengths angles dates)
+  pub rules : TableRules (masksOf names lengths angles dates)
 
 pub table-accepted : (s : Scheme) (names lengths angles dates : ℕ)
     → faultOf s (OfBook (ComparisonTable names lengths angles dates)) ≡ 0 → NewTable s names lengths angles dates

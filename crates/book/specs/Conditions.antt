@@ -11,7 +11,7 @@ use lib.ListN.{getD}
 use Rattle.sets.specs.Sets.{_∈_, _∉_, _⊆_, count}
 use Rattle.values.specs.Values.{inRange}
 use Rattle.records.specs.Checks.{Condition, _gives_}
-use Rattle.values.specs.Table.{Rules}
+use Rattle.values.specs.Table.{TableRules}
 use Rattle.records.specs.Records.{masksOf}
 use Rattle.records.specs.declared.Record.{Record}
 use Rattle.records.specs.declared.Record.the-variants.{OfBook, OfQuery}
@@ -77,7 +77,7 @@ conditions s (OfBook (Declared set)) = maximalConditions s (s .maximal .declarat
 conditions s (OfBook (Removed set)) = maximalConditions s (s .maximal .removals) set
 conditions s (OfBook (ComparisonTable names lengths angles dates)) =
     (1 ≤ s .table .given gives 4)
-    ∷ ((Rules (masksOf names lengths angles dates) → ⊥) gives 20)
+    ∷ ((TableRules (masksOf names lengths angles dates) → ⊥) gives 20)
     ∷ []
 conditions s (OfBook OnlyDeclared) = []
 -- a kind of a query

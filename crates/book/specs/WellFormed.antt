@@ -6,7 +6,7 @@ use mathlib.Core.List.{List·Memᴰ}
 use Prim.Native.Nat.{ℕ, _^_, _≤_, _<_}
 use lib.ListN.{length, getD}
 use Rattle.sets.specs.Sets.{_∈_, _∉_, _⊆_, count}
-use Rattle.values.specs.Table.{Rules}
+use Rattle.values.specs.Table.{TableRules}
 use Rattle.scheme.specs.declared.Scheme.{Scheme}
 use Rattle.scheme.specs.declared.MaximalRecords.{MaximalRecords}
 use Rattle.scheme.specs.Dependencies.{Dependency}
@@ -46,7 +46,7 @@ pub record WellFormed (s : Scheme) : Type 0 where
   -- value kinds are 0 to 3
   pub kindsBelow : (a : ℕ) → getD (s .kinds) a 0 < 4
   -- the comparison table keeps the rules of one
-  pub rules : Rules (s .table .masks)
+  pub rules : TableRules (s .table .masks)
   pub objectSets : (k : ℕ) → k ∈ s .objects → ObjectSet (s .attributes) (getD (s .sets) k 0)
   pub otherSets : (k : ℕ) → k ∉ s .objects → getD (s .sets) k 0 ≡ 0
   pub sides : (d : Dependency) → List·Memᴰ d (dependenciesOf s)

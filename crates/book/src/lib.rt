@@ -82,7 +82,7 @@ fn attribute_fault(s: Scheme, id: u8, kind: u8) -> u8
     if kind > 3 {
         return 5;
     }
-    if sets::has(s.attributes, records::wide(id)) {
+    if sets::has(s.attributes, numbers::wide(id)) {
         return 6;
     }
     0
@@ -100,7 +100,7 @@ fn object_fault(s: Scheme, number: u8, set: AttributeSet) -> u8
     if sets::count(set) > 6 {
         return 5;
     }
-    if sets::has(s.objects, records::wide(number)) {
+    if sets::has(s.objects, numbers::wide(number)) {
         return 6;
     }
     if !sets::within(set, s.attributes) {
@@ -137,7 +137,7 @@ fn row_fault(s: Scheme, object: u8, cells: [u32; 6]) -> u8
     if object > 31 {
         return 5;
     }
-    if !sets::has(s.objects, records::wide(object)) {
+    if !sets::has(s.objects, numbers::wide(object)) {
         return 7;
     }
     let k = object as usize;
@@ -251,7 +251,7 @@ fn with_attribute(mut s: Scheme, id: u8, kind: u8) -> Scheme
 {
     let i = id as usize;
     s.kinds[i] = kind;
-    s.attributes = sets::insert(s.attributes, records::wide(id));
+    s.attributes = sets::insert(s.attributes, numbers::wide(id));
     s
 }
 
@@ -261,7 +261,7 @@ fn with_object(mut s: Scheme, number: u8, set: AttributeSet) -> Scheme
 {
     let i = number as usize;
     s.sets[i] = set;
-    s.objects = sets::insert(s.objects, records::wide(number));
+    s.objects = sets::insert(s.objects, numbers::wide(number));
     s
 }
 

@@ -26,14 +26,14 @@ use Rattle.query.proofs.Theorems.{records-ask}
 use Rattle.sorted.specs.Rows.{OfKinds, Ascending, none, AllOfKinds}
 use Rattle.sorted.proofs.Theorems.{rows-more, determined-by-members}
 use Rattle.connection.specs.Connection.{connection}
-use Rattle.connection.specs.Answers.{Cells, kindOf, itemCells, cellsOf, InAnswer, rowsFor, choices, rowsOf, itemKinds}
+use Rattle.connection.specs.Answers.{Cells, kindOf, itemCells, cellsOf, InAnswer, rowsFor, choices, rowsChosen, itemKinds}
 use Rattle.connection.specs.Answers.{answerRows}
 use Rattle.connection.specs.Statements.{NamesInRange}
 use Rattle.connection.proofs.Named.{item-named, AgreeOnNames, items-agree, true-agrees}
 use Rattle.connection.proofs.Connected.{of-connection, connection-has}
 use Rattle.connection.proofs.Ranged.{connection-cell-lt, connection-cell-ranged}
 use Rattle.connection.proofs.Choices.{Chosen, one, of-choices, choices-have, all-true, true-all, chosenCells}
-use Rattle.connection.proofs.Choices.{of-rowsOf, rowsOf-has}
+use Rattle.connection.proofs.Choices.{of-rowsChosen, rowsChosen-has}
 use Rattle.connection.proofs.Choices as Choices
 
 -- ---- cells of items
@@ -84,10 +84,10 @@ module _ (b : List ℕ) (bounded : (M : ℕ) → OfAttributes (familyOf (read b 
       ap (λ (t : Bool). elim t [ true ↦ [] ∷ [] | false ↦ connection b (read b) (attributesNamed rs v) ])
       (isEmpty-no (records-ask rs .attributes v a .1 n))
 
-  choice-answers : {row : Row} → List·Memᴰ row (rowsOf (read b) rs (choices b (read b) rs variables))
+  choice-answers : {row : Row} → List·Memᴰ row (rowsChosen (read b) rs (choices b (read b) rs variables))
       → InAnswer b (read b) rs row
   choice-answers m =
-      let g = of-rowsOf (read b) rs (choices b (read b) rs variables) m in
+      let g = of-rowsChosen (read b) rs (choices b (read b) rs variables) m in
       let c = of-choices b (read b) rs variables (g .there) in
       record {
         picks = λ v. getD (g .choice) v [];
@@ -142,10 +142,10 @@ module _ (b : List ℕ) (bounded : (M : ℕ) → OfAttributes (familyOf (read b 
       each = λ v a n. ap (λ (r : Row). cellOf (attributesNamed rs v) r a) (choice-picks n);
     }
 
-    answer-chosen : List·Memᴰ row (rowsOf (read b) rs (choices b (read b) rs variables))
+    answer-chosen : List·Memᴰ row (rowsChosen (read b) rs (choices b (read b) rs variables))
     answer-chosen =
         Memᴰ·cast (i .shows ∙ sym (items-agree choice-agrees))
-        (rowsOf-has (read b) rs (choices-have b (read b) rs choice-chosen)
+        (rowsChosen-has (read b) rs (choices-have b (read b) rs choice-chosen)
         (true-all (read b) (chosenCells rs choice) (comparisonsOf rs)
         (λ c m. true-agrees choice-agrees (read b) m ∙ i .holding c m)))
 
@@ -178,7 +178,7 @@ module _ (b : List ℕ) (bounded : (M : ℕ) → OfAttributes (familyOf (read b 
 
   -- ---- the list in order
 
-  given-of-kinds : AllOfKinds (itemKinds (read b) rs) (rowsOf (read b) rs (choices b (read b) rs variables))
+  given-of-kinds : AllOfKinds (itemKinds (read b) rs) (rowsChosen (read b) rs (choices b (read b) rs variables))
   given-of-kinds = record { each = λ r m. answer-of-kinds (choice-answers m) }
 
   none-of-kinds : AllOfKinds (itemKinds (read b) rs) []
@@ -187,7 +187,7 @@ module _ (b : List ℕ) (bounded : (M : ℕ) → OfAttributes (familyOf (read b 
   pub answer-rows : (row : Row) → List·Memᴰ row (answerRows b (read b) rs) ↔ InAnswer b (read b) rs row
   unfolding answerRows
   answer-rows row =
-      let m = rows-more (itemKinds (read b) rs) .members (rowsOf (read b) rs (choices b (read b) rs variables)) []
+      let m = rows-more (itemKinds (read b) rs) .members (rowsChosen (read b) rs (choices b (read b) rs variables)) []
       given-of-kinds none-of-kinds row in (
         λ k. ⊎-elim (λ j. choice-answers j) (λ j. absurd (List·Memᴰ·not-nil j)) (m .0 k),
         λ i. m .1 (inl (answer-chosen i)),

@@ -15,7 +15,7 @@ use Rattle.relation.specs.Tables.{Row}
 use Rattle.book.specs.Reading.{Outcome}
 use Rattle.query.specs.declared.Comparison.{Comparison}
 use Rattle.query.specs.Asking.{itemsOf, comparisonsOf}
-use Rattle.connection.specs.Answers.{Cells, itemCells, isTrue, allTrue, cellsOf, rowsFor, inFront, choices, rowsOf}
+use Rattle.connection.specs.Answers.{Cells, itemCells, isTrue, allTrue, cellsOf, rowsFor, inFront, choices, rowsChosen}
 
 -- ---- rows in front
 
@@ -111,35 +111,35 @@ module _ (o : Outcome) (rs : List Record) where
   gives-later g =
       record { choice = g .choice; there = List·Memᴰ·tail (g .there); passes = g .passes; shows = g .shows }
 
-  pub of-rowsOf : (ls : List (List Row)) {row : Row} → List·Memᴰ row (rowsOf o rs ls) → Gives ls row
-  unfolding rowsOf
-  of-rowsOf [] m = absurd (List·Memᴰ·not-nil m)
-  of-rowsOf (l ∷ ls) {row} m = by (allTrue o (comparisonsOf rs) (chosenCells rs l)) refl m (λ i. of-rowsOf ls i)
+  pub of-rowsChosen : (ls : List (List Row)) {row : Row} → List·Memᴰ row (rowsChosen o rs ls) → Gives ls row
+  unfolding rowsChosen
+  of-rowsChosen [] m = absurd (List·Memᴰ·not-nil m)
+  of-rowsChosen (l ∷ ls) {row} m = by (allTrue o (comparisonsOf rs) (chosenCells rs l)) refl m (λ i. of-rowsChosen ls i)
     where
       by : (t : Bool) → allTrue o (comparisonsOf rs) (chosenCells rs l) ≡ t
           → List·Memᴰ row (elim t [
-            | true ↦ itemCells (itemsOf rs) (chosenCells rs l) ∷ rowsOf o rs ls
-            | false ↦ rowsOf o rs ls
+            | true ↦ itemCells (itemsOf rs) (chosenCells rs l) ∷ rowsChosen o rs ls
+            | false ↦ rowsChosen o rs ls
           ])
-          → (List·Memᴰ row (rowsOf o rs ls) → Gives ls row) → Gives (l ∷ ls) row
+          → (List·Memᴰ row (rowsChosen o rs ls) → Gives ls row) → Gives (l ∷ ls) row
       by true e (List·Memᴰ·head z) ih = record { choice = l; there = List·Memᴰ·head refl; passes = e; shows = z }
       by true e (List·Memᴰ·tail i) ih = gives-later (ih i)
       by false e i ih = gives-later (ih i)
 
-  pub rowsOf-has : {l : List Row} {ls : List (List Row)} → List·Memᴰ l ls
+  pub rowsChosen-has : {l : List Row} {ls : List (List Row)} → List·Memᴰ l ls
       → allTrue o (comparisonsOf rs) (chosenCells rs l) ≡ true
-      → List·Memᴰ (itemCells (itemsOf rs) (chosenCells rs l)) (rowsOf o rs ls)
-  unfolding rowsOf
-  rowsOf-has {l} {ls = k ∷ ls} m e = by (allTrue o (comparisonsOf rs) (chosenCells rs k)) refl m (λ i. rowsOf-has i e)
+      → List·Memᴰ (itemCells (itemsOf rs) (chosenCells rs l)) (rowsChosen o rs ls)
+  unfolding rowsChosen
+  rowsChosen-has {l} {ls = k ∷ ls} m e = by (allTrue o (comparisonsOf rs) (chosenCells rs k)) refl m (λ i. rowsChosen-has i e)
     where
       row : Row
       row = itemCells (itemsOf rs) (chosenCells rs l)
 
       by : (t : Bool) → allTrue o (comparisonsOf rs) (chosenCells rs k) ≡ t → List·Memᴰ l (k ∷ ls)
-          → (List·Memᴰ l ls → List·Memᴰ row (rowsOf o rs ls))
+          → (List·Memᴰ l ls → List·Memᴰ row (rowsChosen o rs ls))
           → List·Memᴰ row (elim t [
-            | true ↦ itemCells (itemsOf rs) (chosenCells rs k) ∷ rowsOf o rs ls
-            | false ↦ rowsOf o rs ls
+            | true ↦ itemCells (itemsOf rs) (chosenCells rs k) ∷ rowsChosen o rs ls
+            | false ↦ rowsChosen o rs ls
           ])
       by true y (List·Memᴰ·head z) ih =
           List·Memᴰ·head (ap (λ (q : List Row). itemCells (itemsOf rs) (chosenCells rs q)) z)

@@ -6,6 +6,7 @@ use mathlib.Core.Path.{_≡_, refl}
 use mathlib.Core.List.{List, [], _∷_, _++_, map}
 use Prim.Native.Nat.{ℕ}
 use lib.ListN.{length, drop, replicate}
+use Rattle.numbers.specs.Numbers.{isNil}
 use Rattle.sets.specs.Sets.{bit, has, within, _∩_, _∪_, _∖_, single, isEmpty, rank, members}
 use Rattle.values.specs.Values.{missing, inRange, signed, valueOf, lessCell, matches}
 use Rattle.values.specs.Operators.{compares, holds}
@@ -42,7 +43,7 @@ use Rattle.query.specs.Asking.{itemOf, itemsOf, comparisonOf, comparisonsOf, na
 use Rattle.query.specs.Asking.{filled, askedOf}
 use Rattle.query.specs.Faults as Queries
 use Rattle.query.specs.Reading as Query
-use Rattle.query.specs.Reading.{isEnd, walkQuery, containing, isNil, unconnected, someUnconnected, wholeNumber, atEnd}
+use Rattle.query.specs.Reading.{isEnd, walkQuery, containing, unconnected, someUnconnected, wholeNumber, atEnd}
 use Rattle.sorted.specs.Rows as Sorted
 use Rattle.sorted.specs.Rows.{lessRow, insertRow, insertRows, withRows}
 use Rattle.connection.specs.declared.Answer.{Answer}
@@ -51,7 +52,7 @@ use Rattle.connection.specs.Answers.{itemCells, rightCell, isTrue, allTr
 use Rattle.connection.specs.Answers.{choices}
 use Rattle.connection.specs.Answers.{itemKinds, answerRows}
 use Rattle.connection.specs.Answers as Answers
-use Rattle.connection.specs.Answering.{rowsOf, spaceNumber, number, refused, answerOf, spaceAfter}
+use Rattle.connection.specs.Answering.{rowsAnswered, spaceNumber, number, refused, answerOf, spaceAfter}
 
 -- ---- books
 
@@ -97,7 +98,7 @@ outcome book q serial space =
 
 -- the rows of a query's records with kind 10 behind them
 unfoldable pub rows : List BookRecord → List QueryRecord → List (List ℕ)
-rows book query = rowsOf (bytesOfBook book) (bytesOfQuery (query ++ End ∷ []))
+rows book query = rowsAnswered (bytesOfBook book) (bytesOfQuery (query ++ End ∷ []))
 
 -- ---- the trials
 
@@ -157,8 +158,8 @@ outcomes =
 
 pub outcomes-hold : map (λ t. t .gives) outcomes ≡ map (λ t. t .says) outcomes
 unfolding outcomes outcome queries twoObjects lengths withEmpty survey ring spaceAfter answerOf refused number
-    spaceNumber rowsOf answerRows itemKinds choices inFront rowsFor cellsOf allTrue isTrue rightCell
-    itemCells Answers.rowsOf connection parts withRows Sorted.cellsOf insertRows insertRow lessRow Query.read atEnd
+    spaceNumber rowsAnswered answerRows itemKinds choices inFront rowsFor cellsOf allTrue isTrue rightCell
+    itemCells Answers.rowsChosen connection parts withRows Sorted.cellsOf insertRows insertRow lessRow Query.read atEnd
     wholeNumber someUnconnected unconnected isNil containing walkQuery isEnd Queries.faultOf Queries.checks ofQuery
     askedOf filled attributesNamed naming namesOf nameOf comparisonsOf comparisonOf itemsOf itemOf tablesOf
     Tables.rowsOf Tables.rowOf Tables.cellsOf read afterLast lastFault lastNumber records withRow isRow declare
@@ -211,8 +212,8 @@ rowTrials =
 pub rows-hold : map (λ t. t .gives) rowTrials ≡ map (λ t. t .says) rowTrials
 unfolding rowTrials rows beside withTable withMasks keepsRules entryKeeps everyBelow mirrored twoObjects lengths
     withEmpty survey
-    ring spaceAfter answerOf refused number spaceNumber rowsOf answerRows itemKinds choices inFront rowsFor cellsOf
-    allTrue isTrue rightCell itemCells Answers.rowsOf connection parts withRows Sorted.cellsOf insertRows insertRow
+    ring spaceAfter answerOf refused number spaceNumber rowsAnswered answerRows itemKinds choices inFront rowsFor cellsOf
+    allTrue isTrue rightCell itemCells Answers.rowsChosen connection parts withRows Sorted.cellsOf insertRows insertRow
     lessRow Query.read atEnd wholeNumber someUnconnected unconnected isNil containing walkQuery isEnd Queries.faultOf
     Queries.checks ofQuery askedOf filled attributesNamed naming namesOf nameOf comparisonsOf comparisonOf itemsOf
     itemOf tablesOf Tables.rowsOf Tables.rowOf Tables.cellsOf read afterLast lastFault lastNumber records withRow isRow

@@ -27,7 +27,7 @@ use Rattle.query.specs.Asking.{attributesNamed}
 use Rattle.query.specs.Accepting.{NamedIn}
 use Rattle.connection.specs.Connection.{InPart, InConnection}
 use Rattle.connection.specs.Answers.{Cells, cellsOf, InAnswer, shownTables}
-use Rattle.plan.proofs.Families.{object-in-family, kept-shown}
+use Rattle.scheme.proofs.KeptSets.{object-in-family, kept-shown}
 use Rattle.connection.specs.Fitting.{tableOf, RowFits, FitsObject, FitsVariable, FitsQuery}
 use Rattle.connection.specs.Statements.{NamesInRange}
 use Rattle.connection.proofs.Shown.{row-of-object, of-shown-row, shownOn, shown-has, of-shown}

@@ -11,7 +11,7 @@ use Rattle.records.specs.declared.Record.{Record}
 use Rattle.records.specs.declared.Record.the-variants.{OfQuery}
 use Rattle.records.specs.declared.QueryRecord.the-variants.{End}
 use Rattle.scheme.specs.declared.Scheme.{Scheme}
-use Rattle.query.specs.Reading.{Outcome, read}
+use Rattle.query.specs.Reading.{QueryOutcome, read}
 use Rattle.query.specs.Accepting.{Names, NamedIn, Accepted, StopsWith, faulty, unended, refused, answered}
 use Rattle.query.proofs.Theorems.{read-exactly, accepted-fits}
 use Rattle.connection.specs.Statements.{NamesInRange}
@@ -33,7 +33,7 @@ ended-in-range : {s : Scheme} {b : List ℕ} {rs : List Record} {at : ℕ} → A
     → NamesInRange (rs ++ OfQuery End ∷ [])
 ended-in-range {rs = rs} k = record { each = λ v a n. accepted-in-range k .each v a (named-before rs n) }
 
-stops-in-range : {s : Scheme} {Ms b : List ℕ} {o : Outcome} → StopsWith s Ms b o → NamesInRange (o .records)
+stops-in-range : {s : Scheme} {Ms b : List ℕ} {o : QueryOutcome} → StopsWith s Ms b o → NamesInRange (o .records)
 stops-in-range (faulty k f) = accepted-in-range k
 stops-in-range (unended k h) = accepted-in-range k
 stops-in-range (refused k e w n) = ended-in-range k
@@ -44,5 +44,5 @@ none-in-range = record { each = λ v a n. absurd (List·Memᴰ·not-nil (n .ther
 
 pub read-in-range : (s : Scheme) (Ms b : List ℕ) → NamesInRange (read s Ms b .records)
 read-in-range s Ms b =
-    ⊎-elim (λ h. subst (λ (o : Outcome). NamesInRange (o .records)) (sym (read-exactly s Ms b .over h)) none-in-range)
+    ⊎-elim (λ h. subst (λ (o : QueryOutcome). NamesInRange (o .records)) (sym (read-exactly s Ms b .over h)) none-in-range)
     (λ h. stops-in-range (read-exactly s Ms b .exactly h (read s Ms b) .0 refl)) (lt-or-le 65536 (length b))

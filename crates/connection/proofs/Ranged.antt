@@ -19,7 +19,7 @@ use Rattle.book.specs.TablesOf.{rowsOf}
 use Rattle.book.proofs.Theorems.{tables-of-book}
 use Rattle.connection.specs.Connection.{InConnection}
 use Rattle.connection.specs.Answers.{shownTables}
-use Rattle.plan.specs.Planned.{keptFor}
+use Rattle.scheme.specs.KeptSets.{keptFor}
 use Rattle.connection.specs.Fitting.{tableOf, FitsObject, FitsVariable}
 use Rattle.connection.proofs.Shown.{table-there, of-shown}
 use Rattle.connection.proofs.Fitted.{wanted-shown, connection-cells}

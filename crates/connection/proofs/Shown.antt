@@ -23,7 +23,7 @@ use Rattle.relation.proofs.Sharing.{of-two-at}
 use Rattle.book.specs.Reading.{Outcome}
 use Rattle.book.specs.TablesOf.{tablesOf}
 use Rattle.book.proofs.TablesOf.{tables-family}
-use Rattle.plan.specs.Planned.{keptFor, Shows}
+use Rattle.scheme.specs.KeptSets.{keptFor, Shows}
 use Rattle.connection.specs.Answers.{shownTables}
 use Rattle.connection.specs.Fitting.{tableOf}
 

@@ -20,7 +20,7 @@ use Rattle.query.specs.Asking.{itemsOf}
 use Rattle.connection.specs.Statements.{NamesInRange, ConnectionListed, AnswerListed, AnswerInRange, CombinationsGive}
 use Rattle.connection.specs.Statements.{AnswerFits, OneKeptSet, ComparisonMeans}
 use Rattle.connection.specs.Answers.{Cells, kindOf, kindAt, rightCell, isTrue, itemKinds}
-use Rattle.connection.specs.Answering.{queryRead, rowsOf}
+use Rattle.connection.specs.Answering.{queryRead, rowsAnswered}
 use Rattle.connection.specs.Outcomes.{itemCount, AnswerNumberMeans, Demand1, PromiseE}
 use Rattle.connection.proofs.InRange.{read-in-range}
 use Rattle.connection.proofs.Shown.{of-shown-row, row-of-object, tables-kept}
@@ -111,8 +111,8 @@ answer-number-means b q serial room = record {
 -- ---- demand 1
 
 -- the rows have as many cells as there are items
-rows-wide : (b q : List ℕ) → AllWide (itemCount b q) (rowsOf b q)
-unfolding rowsOf itemKinds
+rows-wide : (b q : List ℕ) → AllWide (itemCount b q) (rowsAnswered b q)
+unfolding rowsAnswered itemKinds
 rows-wide b q r m =
     let rs : List Record = queryRead (read b) q .records in
     answer-listed b rs (names-in-range b q) .ofKinds .each r m .wide ∙ length-map (itemsOf rs) (kindOf (read b))

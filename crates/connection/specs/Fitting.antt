@@ -18,7 +18,7 @@ use Rattle.book.specs.TablesOf.{rowsOf}
 use Rattle.query.specs.declared.Comparison.{Comparison}
 use Rattle.query.specs.Asking.{itemsOf, comparisonsOf, attributesNamed}
 use Rattle.query.specs.Accepting.{NamedIn}
-use Rattle.plan.specs.Planned.{keptFor, Shows}
+use Rattle.scheme.specs.KeptSets.{keptFor, Shows}
 use Rattle.connection.specs.Answers.{Cells, itemCells, isTrue}
 
 -- ---- cells that fit a maximal object

@@ -14,7 +14,7 @@ use Rattle.sets.proofs.Tests.{yes-or-no}
 use Rattle.sets.proofs.Numbers.{lt-or-le}
 use Rattle.book.specs.Reading.{read}
 use Rattle.connection.specs.declared.Answer.{Answer}
-use Rattle.connection.specs.Answering.{queryRead, rowsOf, number, refused, answerOf, spaceAfter}
+use Rattle.connection.specs.Answering.{queryRead, rowsAnswered, number, refused, answerOf, spaceAfter}
 use Rattle.printout.specs.Lines.{answerText, fits}
 use Rattle.printout.specs.Printing.{printed, after, answerPrinted, afterAnswer}
 use Rattle.printout.specs.declared.Printed.{Printed}
@@ -72,7 +72,7 @@ module _ (b q : List ℕ) (serial : ℕ) (space results : List ℕ) where
         ))
 
     pub answer-given : number b q serial (length space) ≡ 0
-        → FourResults given 0 (length (rowsOf b q)) (serial + 1) (queryRead (read b) q .read)
+        → FourResults given 0 (length (rowsAnswered b q)) (serial + 1) (queryRead (read b) q .read)
     unfolding answerOf
     answer-given z = four-given (rw (answerOf, eq-eqb (number b q serial (length space)) 0 z))
 

@@ -8,7 +8,7 @@ use mathlib.Core.List.{List}
 use Prim.Native.Nat.{ℕ, _+_, _≤_, _<_}
 use lib.ListN.{length, getD}
 use Rattle.book.specs.Reading.{read}
-use Rattle.connection.specs.Answering.{queryRead, rowsOf, number, spaceAfter}
+use Rattle.connection.specs.Answering.{queryRead, rowsAnswered, number, spaceAfter}
 use Rattle.printout.specs.Printing.{printed, after, answerPrinted, afterAnswer}
 use Rattle.printout.specs.declared.Printed.{Printed}
 use Rattle.printout.specs.declared.Printed.the-variants.{Bytes, NoRoom, NotFit}
@@ -32,7 +32,7 @@ pub record AnswerGiven (b q : List ℕ) (serial : ℕ) (space results : List ℕ
       → FourResults (answerResults b q serial (length space) results) n 0 serial 0
   -- "A full answer returns the row count, the serial plus one and the bytes of query read"
   pub answer : 4 ≤ length results → number b q serial (length space) ≡ 0
-      → FourResults (answerResults b q serial (length space) results) 0 (length (rowsOf b q)) (serial + 1)
+      → FourResults (answerResults b q serial (length space) results) 0 (length (rowsAnswered b q)) (serial + 1)
       (queryRead (read b) q .read)
   -- either is status 0, and the space is as answering leaves it
   pub done : 4 ≤ length results

@@ -10,6 +10,7 @@ ghost use Rattle.printout.specs.Decimal.{decimal, valueText, cellText};
 ghost use Rattle.printout.specs.Lines.{rowLine, rowLines, headLine, bookRefused, queryRefused};
 ghost use Rattle.printout.specs.Lines.{allKnown, rowFits, rowsFit, fits};
 ghost use Rattle.printout.specs.Printing.{written, printed, after, answerPrinted, afterAnswer};
+use numbers::index;
 
 // Room that is always enough for an answer of 8,192 cells.
 pub const ROOM: usize = 98327;
@@ -22,13 +23,6 @@ pub enum Printed {
     NoRoom,
     // The answer is not fit to print. The bytes are as they were.
     NotFit,
-}
-
-// A cell as a number of 64 bits.
-pub fn wide(x: u32) -> usize
-    ensures { λ r. ⌜ (r ≡ x) × (r < 2 ^ 32) ⌝ }
-{
-    x as usize
 }
 
 // The byte of a digit.
@@ -114,9 +108,9 @@ fn value_length(kind: u8, cell: u32) -> usize
     ensures inside { λ r. ⌜ r ≤ 11 ⌝ }
 {
     if has_minus(kind, cell) {
-        return 1 + decimal_length(4294967296 - wide(cell));
+        return 1 + decimal_length(4294967296 - index(cell));
     }
-    decimal_length(wide(cell))
+    decimal_length(index(cell))
 }
 
 // How many bytes the text of a cell has.
@@ -138,9 +132,9 @@ fn put_value(out: &mut [u8], at: usize, kind: u8, cell: u32) -> usize
 {
     if has_minus(kind, cell) {
         let digits = put_byte(out, at, b'-');
-        return put_decimal(out, digits, 4294967296 - wide(cell));
+        return put_decimal(out, digits, 4294967296 - index(cell));
     }
-    put_decimal(out, at, wide(cell))
+    put_decimal(out, at, index(cell))
 }
 
 // Writes a cell by its kind, a missing one as a minus alone. The place behind it.
@@ -243,7 +237,7 @@ fn head_length(serial: u32, rows: usize) -> usize
     ensures { λ r. ⌜ r ≡ length (headLine serial rows) ⌝ }
     ensures inside { λ r. ⌜ r ≤ 49 ⌝ }
 {
-    decimal_length(wide(serial)) + decimal_length(rows) + 9
+    decimal_length(index(serial)) + decimal_length(rows) + 9
 }
 
 // Writes the head line of an answer in front. The place behind it.
@@ -252,7 +246,7 @@ fn put_head(out: &mut [u8], serial: u32, rows: usize) -> usize
     ensures { λ r. ⌜ r ≡ 0 + length (headLine serial rows) ⌝ }
     ensures { λ _. ⌜ now (out .exit) ≡ written 0 (headLine serial rows) (now (out .entry)) ⌝ }
 {
-    let mut at = put_words(out, 0, b"Q ", wide(serial));
+    let mut at = put_words(out, 0, b"Q ", index(serial));
     at = put_words(out, at, b" rows ", rows);
     put_byte(out, at, b'\n')
 }

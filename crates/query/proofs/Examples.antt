@@ -6,6 +6,7 @@ use mathlib.Core.Bool.{true, false}
 use mathlib.Core.List.{List, [], _∷_, _++_, map, flatMap}
 use Prim.Native.Nat.{ℕ, _+_}
 use lib.ListN.{take, replicate}
+use Rattle.numbers.specs.Numbers.{isNil}
 use Rattle.sets.specs.Sets.{bit, has, within, _∪_, single, isEmpty, members}
 use Rattle.values.specs.Values.{missing, inRange}
 use Rattle.values.specs.Table.{builtIn, allows}
@@ -28,7 +29,7 @@ use Rattle.query.specs.declared.Query.{Query}
 use Rattle.query.specs.Asking.{itemOf, itemsOf, comparisonOf, comparisonsOf, nameOf, namesOf, naming}
 use Rattle.query.specs.Asking.{attributesNamed, filled, askedOf}
 use Rattle.query.specs.Faults.{checks, faultOf}
-use Rattle.query.specs.Reading.{isEnd, walkQuery, containing, isNil, unconnected, someUnconnected, wholeNumber}
+use Rattle.query.specs.Reading.{isEnd, walkQuery, containing, unconnected, someUnconnected, wholeNumber}
 use Rattle.query.specs.Reading.{atEnd, read, queryOf}
 
 -- ---- the scheme of a book: attributes 0 name, 1 length, 2 angle, 3 date, 4 length; objects 0 {0,1}, 1 {0,2}, 2 {3,4}

@@ -11,6 +11,7 @@ use borrow.Author.Tests.{eq-eqb, ne-eqb, not-true, not-false}
 use lib.ListN.{length, getD}
 use types.Run.{OneOf, miss}
 use denote.Enum.Declared.{tagOf}
+use Rattle.numbers.specs.Numbers.{isNil}
 use Rattle.sets.specs.Sets.{within, isEmpty}
 use Rattle.sets.proofs.Tests.{and-yes}
 use Rattle.records.proofs.Reading.{the-type}
@@ -30,7 +31,7 @@ use Rattle.query.specs.declared.Walked.{Walked}
 use Rattle.query.specs.declared.Query.{Query}
 use Rattle.query.specs.Asking.{itemsOf, comparisonsOf, askedOf, nothingAsked, withRecord}
 use Rattle.query.specs.Faults.{faultOf}
-use Rattle.query.specs.Reading.{isEnd, queryRules, walkQuery, stopNumber, walkedOf, containing, isNil}
+use Rattle.query.specs.Reading.{isEnd, queryRules, walkQuery, stopNumber, walkedOf, containing}
 use Rattle.query.specs.Reading.{unconnected}
 use Rattle.query.specs.Reading.{someUnconnected, wholeNumber, read, queryOf}
 use Rattle.query.proofs.Asking.{asked-nothing, asked-record, asked-end, last-is-end}
@@ -130,7 +131,7 @@ unfolding containing isNil
 contains-asks sets X = record { none = refl; more = λ M Ms. by (within X (attributesOf sets M)) Ms M }
   where
     by : (t : Bool) (Ms : List ℕ) (M : ℕ)
-        → not (isNil (elim t [ true ↦ M ∷ containing sets Ms X | false ↦ containing sets Ms X ]))
+        → not (isNil {A = ℕ} (elim t [ true ↦ M ∷ containing sets Ms X | false ↦ containing sets Ms X ]))
         ≡ (t || not (isNil (containing sets Ms X)))
     by true Ms M = refl
     by false Ms M = refl

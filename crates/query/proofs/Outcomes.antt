@@ -24,7 +24,7 @@ use Rattle.records.proofs.Walking.{walk-stops, stops-walk}
 use Rattle.scheme.specs.declared.Scheme.{Scheme}
 use Rattle.query.specs.Asking.{itemsOf, comparisonsOf, askedOf}
 use Rattle.query.specs.Faults.{checks, faultOf}
-use Rattle.query.specs.Reading.{isEnd, queryRules, walkQuery, wholeNumber, Outcome, refusedWith, atEnd, read}
+use Rattle.query.specs.Reading.{isEnd, queryRules, walkQuery, wholeNumber, QueryOutcome, refusedWith, atEnd, read}
 use Rattle.query.specs.Accepting.{OfWhole, Accepted, Faulty, StopsWith, faulty, unended, refused, answered}
 use Rattle.query.specs.Statements.{FaultyRecord, Unended, Ended}
 use Rattle.query.proofs.Conditions.{FaultNumber, two, three, four, five, seven, eleven, fault-number}
@@ -54,7 +54,7 @@ no-zero f z = ⊎-elim (λ p. absurd (omega arith)) (λ p. absurd (omega arith))
 -- ---- after a walk
 
 -- the outcome that a walk's stop gives
-pub after : Scheme → List ℕ → Stop (List Record) → Outcome
+pub after : Scheme → List ℕ → Stop (List Record) → QueryOutcome
 after s Ms w =
     elim (eqb (w .number) 0) [
       | true ↦ atEnd (wholeNumber s Ms (askedOf (w .state))) (w .state) (w .at)
@@ -135,10 +135,10 @@ module _ (s : Scheme) (Ms b : List ℕ) where
       walk-is (Walking.atLast (a .walked) e refl refl)
       ∙ after-end s Ms (record { number = 0; state = rs ++ OfQuery End ∷ []; at = next }) refl
 
-  pub stops-read : {o : Outcome} → length b ≤ 65536 → StopsWith s Ms b o → read s Ms b ≡ o
+  pub stops-read : {o : QueryOutcome} → length b ≤ 65536 → StopsWith s Ms b o → read s Ms b ≡ o
   stops-read h w = read-within h ∙ by w
     where
-      by : {o : Outcome} → StopsWith s Ms b o → after s Ms (walkQuery s b) ≡ o
+      by : {o : QueryOutcome} → StopsWith s Ms b o → after s Ms (walkQuery s b) ≡ o
       by (faulty {rs} {at} {n} a f) =
           walk-is (Walking.faulty (a .walked) f)
           ∙ after-fault s Ms (record { number = n; state = rs; at = at }) (no-zero (faulty-number-is s rs f))
@@ -161,7 +161,7 @@ module _ (s : Scheme) (Ms b : List ℕ) where
   From : ℕ → Type 0
   From n = FaultyRecord s b n ⊎ (((n ≡ 3) × Unended s b) ⊎ Ended s Ms b n)
 
-  stops-from : {o : Outcome} → StopsWith s Ms b o → From (o .number)
+  stops-from : {o : QueryOutcome} → StopsWith s Ms b o → From (o .number)
   unfolding From
   stops-from (faulty {rs} {at} a f) = inl (record { passed = rs; at = at; accepted = a; faulty = f })
   stops-from (unended {rs} {at} a l) = inr (inl (refl, record { passed = rs; at = at; accepted = a; ended = l }))
@@ -172,8 +172,8 @@ module _ (s : Scheme) (Ms b : List ℕ) where
 
   module _ (h : length b ≤ 65536) where
     -- what stops the reading gives its number
-    number-stops : {o : Outcome} → StopsWith s Ms b o → read s Ms b .number ≡ o .number
-    number-stops w = ap (λ (o : Outcome). o .number) (stops-read s Ms b h w)
+    number-stops : {o : QueryOutcome} → StopsWith s Ms b o → read s Ms b .number ≡ o .number
+    number-stops w = ap (λ (o : QueryOutcome). o .number) (stops-read s Ms b h w)
 
     pub faulty-number : {n : ℕ} → FaultyRecord s b n → read s Ms b .number ≡ n
     faulty-number f = number-stops (faulty (f .accepted) (f .faulty))
@@ -251,7 +251,7 @@ faulty-record-number {s} f = faulty-number-is s (f .passed) (f .faulty)
 
 module _ (s : Scheme) (Ms b : List ℕ) where
   pub number-over : 65536 < length b → read s Ms b .number ≡ 1
-  number-over h = ap (λ (o : Outcome). o .number) (read-over s Ms b h)
+  number-over h = ap (λ (o : QueryOutcome). o .number) (read-over s Ms b h)
 
   -- a number other than 1 comes from a query that is not too long
   pub number-within : (read s Ms b .number ≡ 1 → ⊥) → length b ≤ 65536

@@ -12,6 +12,7 @@ use native.Mathlib.Omega.{arith}
 use borrow.Author.Tests.{eqb-true, eqb-false, not-true}
 use lib.Dec.{eqb}
 use lib.ListN.{length}
+use Rattle.numbers.specs.Numbers.{isNil}
 use Rattle.sets.specs.Sets.{within, isEmpty}
 use Rattle.sets.proofs.Tests.{yes-no, and-yes, yes-and}
 use Rattle.sets.proofs.Sets.{yes-within, no-within, isEmpty-no, no-isEmpty}
@@ -23,7 +24,7 @@ use Rattle.scheme.specs.Growing.{attributesOf}
 use Rattle.scheme.specs.Statements.{LeavesOut, ended, kept, out}
 use Rattle.scheme.proofs.Lists.{Asks, some-yes, yes-some}
 use Rattle.query.specs.Asking.{itemsOf, attributesNamed, askedOf}
-use Rattle.query.specs.Reading.{containing, isNil, unconnected, someUnconnected, wholeNumber}
+use Rattle.query.specs.Reading.{containing, unconnected, someUnconnected, wholeNumber}
 use Rattle.query.specs.Accepting.{Contains, Unconnected, OfWhole, noItem, notConnected, good, Accepted}
 use Rattle.query.proofs.Names.{named-in, in-named}
 use Rattle.query.proofs.Asking.{asked-end}

@@ -18,7 +18,7 @@ use Rattle.scheme.specs.declared.Scheme.{Scheme}
 use Rattle.scheme.specs.Growing.{attributesOf}
 use Rattle.query.specs.Asking.{itemsOf, comparisonsOf}
 use Rattle.query.specs.Faults.{faultOf}
-use Rattle.query.specs.Reading.{queryRules, Outcome, refusedWith}
+use Rattle.query.specs.Reading.{queryRules, QueryOutcome, refusedWith}
 
 -- ---- names
 
@@ -66,7 +66,7 @@ pub record Accepted (s : Scheme) (b : List ℕ) (rs : List Record) (at : ℕ) : 
 abbrev pub Faulty : Scheme → List ℕ → List Record → ℕ → ℕ → Type 0
 Faulty s b rs at n = Walking.Faulty ofQuery (faultOf s (length (itemsOf rs)) (length (comparisonsOf rs))) b at n
 
-pub data StopsWith (s : Scheme) (Ms b : List ℕ) : Outcome → Type 0 where
+pub data StopsWith (s : Scheme) (Ms b : List ℕ) : QueryOutcome → Type 0 where
   -- "the earliest faulty record"
   faulty : {rs : List Record} {at n : ℕ} → Accepted s b rs at → Faulty s b rs at n
       → StopsWith s Ms b (refusedWith n rs)

@@ -8,6 +8,7 @@ use mathlib.Core.List.{List, [], _∷_, _++_}
 use Prim.Native.Nat.{ℕ}
 use lib.Dec.{eqb, ltb}
 use lib.ListN.{length}
+use Rattle.numbers.specs.Numbers.{isNil}
 use Rattle.sets.specs.Sets.{within, isEmpty}
 use Rattle.records.specs.Records.{ofQuery, kindOf}
 use Rattle.records.specs.Walking.{Rules, Stop, shortNumber, walk}
@@ -60,10 +61,6 @@ containing sets [] X = []
 containing sets (M ∷ Ms) X =
     elim (within X (attributesOf sets M)) [ true ↦ M ∷ containing sets Ms X | false ↦ containing sets Ms X ]
 
-unfoldable pub isNil : List ℕ → Bool
-isNil [] = true
-isNil (x ∷ l) = false
-
 -- ---- faults of the whole query: "No item: 10. Some variable's X in no maximal object: 12."
 
 -- a variable that is named has an X that is not empty; in no maximal object is it contained
@@ -86,20 +83,20 @@ wholeNumber s Ms q =
 -- ---- the query
 
 -- what reading gives: a refused query has the records before the fault and 0 bytes read
-pub record Outcome : Type 0 where
+pub record QueryOutcome : Type 0 where
   pub number : ℕ
   pub records : List Record
   pub read : ℕ
 
-abbrev pub refusedWith : ℕ → List Record → Outcome
+abbrev pub refusedWith : ℕ → List Record → QueryOutcome
 refusedWith n rs = record { number = n; records = rs; read = 0 }
 
 -- after the end of the query
-unfoldable pub atEnd : ℕ → List Record → ℕ → Outcome
+unfoldable pub atEnd : ℕ → List Record → ℕ → QueryOutcome
 atEnd n rs at = elim (eqb n 0) [ true ↦ record { number = 0; records = rs; read = at } | false ↦ refusedWith n rs ]
 
 -- "on the query, 1; for each record 2, 3, 4, 5, 7 ..", then what is wrong with the whole
-unfoldable pub read : Scheme → List ℕ → List ℕ → Outcome
+unfoldable pub read : Scheme → List ℕ → List ℕ → QueryOutcome
 read s Ms b =
     elim (ltb 65536 (length b)) [
       | true ↦ refusedWith 1 []
@@ -111,5 +108,5 @@ read s Ms b =
 
 -- ---- what the code gives
 
-unfoldable pub queryOf : Outcome → Query
+unfoldable pub queryOf : QueryOutcome → Query
 queryOf o = record { refusal = o .number; asked = askedOf (o .records); read = o .read }

@@ -23,7 +23,7 @@ use Rattle.query.specs.declared.Comparison.{Comparison}
 use Rattle.query.specs.Asking.{itemsOf, comparisonsOf, attributesNamed, ofTwo, withCell, askedOf}
 use Rattle.query.specs.Faults.{faultOf}
 use Rattle.query.specs.Conditions.{conditions}
-use Rattle.query.specs.Reading.{containing, Outcome, refusedWith, read}
+use Rattle.query.specs.Reading.{containing, QueryOutcome, refusedWith, read}
 use Rattle.query.specs.Accepting.{NamedIn, Contains, OfWhole, Accepted, Faulty, StopsWith}
 
 -- ---- the fault of a record
@@ -68,7 +68,7 @@ pub record ContainingList (sets Ms : List ℕ) (X : ℕ) : Type 0 where
 pub record ReadExactly (s : Scheme) (Ms b : List ℕ) : Type 0 where
   -- "Then, on the query, 1": "bytes after a query's kind 10 counted"
   pub over : 65536 < length b → read s Ms b ≡ refusedWith 1 []
-  pub exactly : length b ≤ 65536 → (o : Outcome) → (read s Ms b ≡ o) ↔ StopsWith s Ms b o
+  pub exactly : length b ≤ 65536 → (o : QueryOutcome) → (read s Ms b ≡ o) ↔ StopsWith s Ms b o
 
 -- what accepted records ask fits: "items 1 to 8; comparisons 0 to 16 in all"
 pub record AcceptedFits (s : Scheme) (b : List ℕ) : Type 0 where

@@ -3,11 +3,12 @@ ghost use mathlib.Core.Path.{_≡_};
 ghost use Prim.Native.Nat.{_<_, _≤_};
 ghost use lib.ListN.{length};
 ghost use mathlib.Core.Bool.{not};
+ghost use Rattle.numbers.specs.Numbers.{isNil};
 ghost use Rattle.records.specs.Records.{ofQuery};
 ghost use Rattle.records.specs.Walking.{shortNumber};
 ghost use Rattle.query.specs.Asking.{nothingAsked, withName, withItem, withComparison, withRecord};
 ghost use Rattle.query.specs.Faults.{faultOf};
-ghost use Rattle.query.specs.Reading.{isEnd, stopNumber, walkQuery, walkedOf, containing, isNil, someUnconnected};
+ghost use Rattle.query.specs.Reading.{isEnd, stopNumber, walkQuery, walkedOf, containing, someUnconnected};
 ghost use Rattle.query.specs.Reading.{wholeNumber, read, queryOf};
 use records::QueryRecord;
 use records::Reading;
@@ -64,7 +65,7 @@ fn item_fault(s: Scheme, retrieved: usize, compared: usize, variable: u8, attrib
     if attribute > 31 {
         return 5;
     }
-    if !sets::has(s.attributes, records::wide(attribute)) {
+    if !sets::has(s.attributes, numbers::wide(attribute)) {
         return 7;
     }
     0
@@ -100,10 +101,10 @@ fn two_fault(
     if attribute2 > 31 {
         return 5;
     }
-    if !sets::has(s.attributes, records::wide(attribute)) {
+    if !sets::has(s.attributes, numbers::wide(attribute)) {
         return 7;
     }
-    if !sets::has(s.attributes, records::wide(attribute2)) {
+    if !sets::has(s.attributes, numbers::wide(attribute2)) {
         return 7;
     }
     let a = attribute as usize;
@@ -138,7 +139,7 @@ fn constant_fault(
     if operator > 5 {
         return 5;
     }
-    if !sets::has(s.attributes, records::wide(attribute)) {
+    if !sets::has(s.attributes, numbers::wide(attribute)) {
         return 7;
     }
     let a = attribute as usize;
@@ -234,7 +235,7 @@ fn with_name(mut q: Asked, variable: u8, attribute: u8) -> Asked
     ensures { λ r. ⌜ r ≡ withName q variable attribute ⌝ }
 {
     let v = variable as usize;
-    q.attributes[v] = sets::insert(q.attributes[v], records::wide(attribute));
+    q.attributes[v] = sets::insert(q.attributes[v], numbers::wide(attribute));
     q
 }
 

@@ -6,6 +6,8 @@ ghost use lib.ListN.{length, drop};
 ghost use Rattle.records.specs.Fields.{field};
 ghost use Rattle.records.specs.Records.{whose, bodyLength, isKind, ofBook, ofQuery, kindOf, masksOf};
 ghost use Rattle.records.specs.Reader.{recordOf, readAt};
+use numbers::place;
+use numbers::wide;
 
 // A record of a book, in the order of the paper's table: kinds 1 to 6, 13 and 14. A comparison table has a word for
 // each left kind, whose bytes are the masks of the right kinds, the lowest first.
@@ -92,20 +94,6 @@ const KINDS: [u8; 30] = [
     0, 0, 1, 2, 1, 5, 1, 8, 1, 25, 1, 4, 1, 4, 2, 2, 2, 5, 2, 7, 2, 0, 0, 0, 0, 0, 1, 16, 1, 0,
 ];
 
-// A byte as a number of 32 bits.
-pub fn wide(b: u8) -> u32
-    ensures { λ r. ⌜ (r ≡ b) × (r < 256) ⌝ }
-{
-    b as u32
-}
-
-// A byte as an index.
-fn index(b: u8) -> usize
-    ensures { λ r. ⌜ r ≡ b ⌝ }
-{
-    b as usize
-}
-
 // The field of one byte at a position.
 pub fn byte_at(s: &[u8], at: usize) -> u8
     requires { ⌜ at < length (now s) ⌝ }
@@ -130,7 +118,7 @@ pub fn word_at(s: &[u8], at: usize) -> u32
 fn whose(kind: u8) -> u8
     ensures { λ r. ⌜ r ≡ whose kind ⌝ }
 {
-    let at: usize = index(kind) * 2;
+    let at: usize = place(kind) * 2;
     if at < 30 { KINDS[at] } else { 0 }
 }
 
@@ -138,8 +126,8 @@ fn whose(kind: u8) -> u8
 pub fn body_length(kind: u8) -> usize
     ensures { λ r. ⌜ r ≡ bodyLength kind ⌝ }
 {
-    let at: usize = index(kind) * 2 + 1;
-    if at < 30 { index(KINDS[at]) } else { 0 }
+    let at: usize = place(kind) * 2 + 1;
+    if at < 30 { place(KINDS[at]) } else { 0 }
 }
 
 // Whether a byte is a kind of the table; of a book; of a query.

@@ -18,7 +18,7 @@ use Rattle.reduction.specs.Kept.{cutTo}
 use Rattle.reduction.specs.Statements.{OfAttributes}
 use Rattle.reduction.proofs.Reducing.{Removable}
 use Rattle.reduction.proofs.Left.{of-cut, cut-in}
-use Rattle.reduction.proofs.Shrinking.{Shrinks, stop, take}
+use Rattle.reduction.proofs.Shrinking.{Shrinks, stop, takeOut}
 use Rattle.relation.specs.Tables.{Row, cellOf, Table, family}
 use Rattle.relation.specs.Joins.{AgreePairwise}
 use Rattle.relation.proofs.Tables.{SameCells, same-cells, set-lt}
@@ -117,7 +117,7 @@ module _ {Ts : List Table} (o : OfAttributes (family Ts)) (agree : AgreePairwise
 
   pub backwards : {A B X : ℕ} {σ : ℕ → ℕ} → Shrinks X (family Ts) A B → AllFit B σ Ts → Extended A X σ
   backwards {σ = σ} stop f = record { assigns = σ; allFit = f; same = λ b i. refl }
-  backwards {X = X} {σ} (take a i out r rest) f =
+  backwards {X = X} {σ} (takeOut a i out r rest) f =
       let e = backwards rest f in
       record {
         assigns = changed (e .assigns) a (cell i r (e .allFit));

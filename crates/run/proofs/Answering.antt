@@ -25,7 +25,7 @@ use Rattle.query.specs.Accepting.{answered}
 use Rattle.query.proofs.Theorems as Queries
 use Rattle.sorted.specs.Rows.{rowsIn}
 use Rattle.connection.specs.Answers.{kindOf, itemKinds}
-use Rattle.connection.specs.Answering.{queryRead, rowsOf, number, spaceAfter}
+use Rattle.connection.specs.Answering.{queryRead, rowsAnswered, number, spaceAfter}
 use Rattle.connection.specs.Outcomes.{Good, MoreSerials, itemCount, cellsNeeded}
 use Rattle.connection.proofs.Theorems.{names-in-range, answer-in-range, answer-number-means, demand1}
 use Rattle.answer.proofs.Asked.{at-member, Asks, query-asks, not-none}
@@ -64,7 +64,7 @@ module _ (b q : List ℕ) (serial : ℕ) (z : numberOf b q serial ≡ 0) where
   some-items : 1 ≤ itemCount b q
   some-items = not-none (itemsOf (askedIn b q)) (asks .some)
 
-  cells-few : length (rowsOf b q) * itemCount b q ≤ 8192
+  cells-few : length (rowsAnswered b q) * itemCount b q ≤ 8192
   cells-few = let (g, m, c) = known in c
 
   -- ---- its text
@@ -73,27 +73,27 @@ module _ (b q : List ℕ) (serial : ℕ) (z : numberOf b q serial ≡ 0) where
     answered-here : number b q serial (length space) ≡ 0
     answered-here = ap (number b q serial) long ∙ z
 
-    rows-there : rowsIn (length (kindsOf b q)) (length (rowsOf b q)) (spaceAfter b q serial space) ≡ rowsOf b q
+    rows-there : rowsIn (length (kindsOf b q)) (length (rowsAnswered b q)) (spaceAfter b q serial space) ≡ rowsAnswered b q
     rows-there =
-        ap (λ (w : ℕ). rowsIn w (length (rowsOf b q)) (spaceAfter b q serial space)) kinds-wide
+        ap (λ (w : ℕ). rowsIn w (length (rowsAnswered b q)) (spaceAfter b q serial space)) kinds-wide
         ∙ demand1 b q serial space .front answered-here
 
     text-same : fullText b q serial
-        ≡ answerText (serial + 1) (length (rowsOf b q)) (kindsOf b q) (spaceAfter b q serial space)
+        ≡ answerText (serial + 1) (length (rowsAnswered b q)) (kindsOf b q) (spaceAfter b q serial space)
     unfolding fullText answerText
     text-same =
-        ap (λ (l : List Row). headLine (serial + 1) (length (rowsOf b q)) ++ rowLines (kindsOf b q) l) (sym rows-there)
+        ap (λ (l : List Row). headLine (serial + 1) (length (rowsAnswered b q)) ++ rowLines (kindsOf b q) l) (sym rows-there)
 
     -- ---- fit to print
 
-    cell-ranged : (i j : ℕ) → i < length (rowsOf b q) → j < length (kindsOf b q)
-        → inRange (getD (kindsOf b q) j 0) (getD (getD (rowsOf b q) i []) j 0) ≡ true
-    unfolding rowsOf
+    cell-ranged : (i j : ℕ) → i < length (rowsAnswered b q) → j < length (kindsOf b q)
+        → inRange (getD (kindsOf b q) j 0) (getD (getD (rowsAnswered b q) i []) j 0) ≡ true
+    unfolding rowsAnswered
     cell-ranged i j h k =
-        answer-in-range b (askedIn b q) (names-in-range b q) .each (getD (rowsOf b q) i [])
-        (at-member (rowsOf b q) [] i h) j (omega (arith, k, kinds-wide))
+        answer-in-range b (askedIn b q) (names-in-range b q) .each (getD (rowsAnswered b q) i [])
+        (at-member (rowsAnswered b q) [] i h) j (omega (arith, k, kinds-wide))
 
-    fit : FitToPrint (length (rowsOf b q)) (kindsOf b q) (spaceAfter b q serial space)
+    fit : FitToPrint (length (rowsAnswered b q)) (kindsOf b q) (spaceAfter b q serial space)
     unfolding itemKinds
     fit = record {
       someItems = omega (arith, kinds-wide, some-items);
@@ -101,14 +101,14 @@ module _ (b q : List ℕ) (serial : ℕ) (z : numberOf b q serial ≡ 0) where
       knownKinds = λ j h.
           kinds-known (read b) (scheme-well-formed b .wellFormed .kindsBelow) (itemsOf (askedIn b q)) j
           (omega (arith, h, kinds-wide));
-      fewRows = omega (arith, rows-few (length (rowsOf b q)) (itemCount b q) some-items cells-few);
+      fewRows = omega (arith, rows-few (length (rowsAnswered b q)) (itemCount b q) some-items cells-few);
       enoughCells =
-          subst (λ (w : ℕ). length (rowsOf b q) * w ≤ length (spaceAfter b q serial space)) (sym kinds-wide)
+          subst (λ (w : ℕ). length (rowsAnswered b q) * w ≤ length (spaceAfter b q serial space)) (sym kinds-wide)
           (omega (arith, cells-few, demand1 b q serial space .asMany, long));
       inRanges = λ i j h k.
           subst (λ (c : ℕ). inRange (getD (kindsOf b q) j 0) c ≡ true)
           (ap (λ (l : List Row). getD (getD l i []) j 0) (sym rows-there)
-          ∙ cell-at (length (rowsOf b q)) (kindsOf b q) (spaceAfter b q serial space) i j h k)
+          ∙ cell-at (length (rowsAnswered b q)) (kindsOf b q) (spaceAfter b q serial space) i j h k)
           (cell-ranged i j h k);
     }
 
@@ -118,9 +118,9 @@ module _ (b q : List ℕ) (serial : ℕ) (z : numberOf b q serial ≡ 0) where
     text-fits h =
         let (g, m, c) = known in
         subst (λ (t : List ℕ). length t ≤ 98327) (sym text-same)
-        (room-enough .answer (serial + 1) (length (rowsOf b q)) (kindsOf b q) (spaceAfter b q serial space)
+        (room-enough .answer (serial + 1) (length (rowsAnswered b q)) (kindsOf b q) (spaceAfter b q serial space)
         (omega (arith, h, m)) fit
-        (subst (λ (w : ℕ). length (rowsOf b q) * w ≤ 8192) (sym kinds-wide) cells-few))
+        (subst (λ (w : ℕ). length (rowsAnswered b q) * w ≤ 8192) (sym kinds-wide) cells-few))
 
   -- ---- bytes read: the end of the query is one
 
@@ -129,11 +129,11 @@ module _ (b q : List ℕ) (serial : ℕ) (z : numberOf b q serial ≡ 0) where
       let (g, m, c) = known in
       let (h, e) =
       Queries.number-means (read b .scheme) (maximalOf (read b .scheme)) q .ofWhole 0 (inl refl) .0 (g .1) in
-      let o : Query.Outcome = record { number = 0; records = e .passed ++ OfQuery End ∷ []; read = e .next } in
+      let o : Query.QueryOutcome = record { number = 0; records = e .passed ++ OfQuery End ∷ []; read = e .next } in
       let w : queryRead (read b) q ≡ o =
       Queries.read-exactly (read b .scheme) (maximalOf (read b .scheme)) q .exactly h o .1
       (answered (e .accepted) (e .atKindTen) (e .whole)) in
-      subst (λ (x : Query.Outcome). (1 ≤ x .read) × (x .read ≤ length q)) (sym w)
+      subst (λ (x : Query.QueryOutcome). (1 ≤ x .read) × (x .read ≤ length q)) (sym w)
       (omega (arith, found-after q (e .at) (e .atKindTen)), whole-readAt q (e .at) (e .atKindTen) .within)
 
 pub answered-prints : (b q : List ℕ) (serial : ℕ) (space : List ℕ) → numberOf b q serial ≡ 0 → serial < 2 ^ 32

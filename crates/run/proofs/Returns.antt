@@ -23,7 +23,7 @@ use Rattle.terms.specs.declared.Terms.{Terms}
 use Rattle.terms.specs.Terms.{Known, InRange, TermsOf}
 use Rattle.connection.specs.declared.Answer.{Answer}
 use Rattle.connection.specs.Answers.{kindOf, itemKinds}
-use Rattle.connection.specs.Answering.{queryRead, rowsOf, number, refused, answerOf, spaceAfter}
+use Rattle.connection.specs.Answering.{queryRead, rowsAnswered, number, refused, answerOf, spaceAfter}
 use Rattle.connection.proofs.Theorems.{answer-number-means}
 use Rattle.answer.proofs.Asked.{query-asks}
 use Rattle.answer.proofs.Returning.{number-is, scheme-is, query-number, asked-is, asked-ready}
@@ -223,7 +223,7 @@ module _ (b q : List ℕ) (serial : ℕ) (space out : List ℕ) (long : length s
 
     answer-is : a ≡ record {
       refusal = 0;
-      rows = length (rowsOf b q);
+      rows = length (rowsAnswered b q);
       serial = serial + 1;
       read = queryRead (read b) q .read;
     }
@@ -237,10 +237,10 @@ module _ (b q : List ℕ) (serial : ℕ) (space out : List ℕ) (long : length s
     -- what is printed is said of the answer that the definition has
     same-answer : {A : Type 0} {kinds : List ℕ} (f : ℕ → ℕ → List ℕ → List ℕ → A) → kinds ≡ kindsOf b q
         → f (a .serial) (a .rows) kinds cells
-        ≡ f (serial + 1) (length (rowsOf b q)) (kindsOf b q) (spaceAfter b q serial space)
+        ≡ f (serial + 1) (length (rowsAnswered b q)) (kindsOf b q) (spaceAfter b q serial space)
     same-answer {kinds = kinds} f k =
         ap (λ (x : Answer). f (x .serial) (x .rows) kinds cells) answer-is
-        ∙ ap₂ (f (serial + 1) (length (rowsOf b q))) k s
+        ∙ ap₂ (f (serial + 1) (length (rowsAnswered b q))) k s
 
     pub step-goes-on : {kinds end : List ℕ} {p : Printed} {n : ℕ} → serial < 2 ^ 32 → kinds ≡ kindsOf b q
         → n ≡ bytesOf p → p ≡ answerPrinted (a .serial) (a .rows) kinds cells out
@@ -249,7 +249,7 @@ module _ (b q : List ℕ) (serial : ℕ) (space out : List ℕ) (long : length s
         (record { printed = n; read = a .read; serial = a .serial; more = true }) cells end
     step-goes-on {kinds} {end} {p} h k l g f =
         let v = answered-prints b q serial space answered-number h long in
-        let (i, j) = answer-printed (serial + 1) (length (rowsOf b q)) (kindsOf b q) (spaceAfter b q serial space) out .fit
+        let (i, j) = answer-printed (serial + 1) (length (rowsAnswered b q)) (kindsOf b q) (spaceAfter b q serial space) out .fit
         (v .fit) in
         let (x, y) = stands (fullText b q serial) out (omega (arith, fits, v .fits)) l
         (g ∙ same-answer (λ m r ks cs. answerPrinted m r ks cs out) k ∙ i ∙ ap (λ (t : List ℕ). printed t out) (sym (v .text)))

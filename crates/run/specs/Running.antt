@@ -9,7 +9,7 @@ use lib.Dec.{eqb, ltb}
 use lib.ListN.{length, drop}
 use Rattle.book.specs.Reading.{read}
 use Rattle.connection.specs.Answers.{itemKinds}
-use Rattle.connection.specs.Answering.{queryRead, rowsOf, number}
+use Rattle.connection.specs.Answering.{queryRead, rowsAnswered, number}
 use Rattle.printout.specs.Lines.{headLine, rowLines, bookRefused, queryRefused}
 use Rattle.printout.specs.declared.Printed.{Printed}
 use Rattle.printout.specs.declared.Printed.the-variants.{Bytes, NoRoom, NotFit}
@@ -31,7 +31,7 @@ kindsOf b q = itemKinds (read b) (queryRead (read b) q .records)
 
 -- "An answer prints `Q`, the new serial, `rows`, the count, then one line a row"
 unfoldable pub fullText : List ℕ → List ℕ → ℕ → List ℕ
-fullText b q serial = headLine (serial + 1) (length (rowsOf b q)) ++ rowLines (kindsOf b q) (rowsOf b q)
+fullText b q serial = headLine (serial + 1) (length (rowsAnswered b q)) ++ rowLines (kindsOf b q) (rowsAnswered b q)
 
 -- its answer, or "a refused query `query refused N`"
 unfoldable pub textOf : List ℕ → List ℕ → ℕ → List ℕ

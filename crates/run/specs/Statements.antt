@@ -8,7 +8,7 @@ use Prim.Native.Nat.{ℕ, _+_, _≤_, _<_, _^_}
 use lib.ListN.{length, drop}
 use Rattle.book.specs.Reading.{read}
 use Rattle.connection.specs.Answers.{itemKinds}
-use Rattle.connection.specs.Answering.{queryRead, rowsOf, number, spaceAfter}
+use Rattle.connection.specs.Answering.{queryRead, rowsAnswered, number, spaceAfter}
 use Rattle.printout.specs.Lines.{answerText, bookRefused, queryRefused, FitToPrint}
 use Rattle.run.specs.Running.{kindsOf, fullText, textOf, openingText, printout, openingOf, stepOf}
 use Rattle.run.specs.Items.{itemKindsOf}
@@ -18,9 +18,9 @@ use Rattle.run.specs.Items.{itemKindsOf}
 -- a query that is answered, over a space of 8,192 cells: its answer is fit to print, what is printed is the text of that
 -- answer, the bytes that the unit has are room enough, and it is read in part at least
 pub record AnsweredPrints (b q : List ℕ) (serial : ℕ) (space : List ℕ) : Type 0 where
-  pub fit : FitToPrint (length (rowsOf b q)) (kindsOf b q) (spaceAfter b q serial space)
+  pub fit : FitToPrint (length (rowsAnswered b q)) (kindsOf b q) (spaceAfter b q serial space)
   pub text : fullText b q serial
-      ≡ answerText (serial + 1) (length (rowsOf b q)) (kindsOf b q) (spaceAfter b q serial space)
+      ≡ answerText (serial + 1) (length (rowsAnswered b q)) (kindsOf b q) (spaceAfter b q serial space)
   pub fits : length (fullText b q serial) ≤ 98327
   pub some : 1 ≤ queryRead (read b) q .read
   pub inside : queryRead (read b) q .read ≤ length q

@@ -8,6 +8,7 @@ pub mod Removals
 pub mod MaximalObjects
 pub mod Packing
 pub mod Loops
+pub mod KeptSets
 pub mod ListLoops
 pub mod OfScheme
 pub mod Theorems

@@ -10,7 +10,7 @@ use Prim.Native.Nat.{ℕ, suc, _+_, _-_, _≤_, _<_}
 use native.Mathlib.Nat.{sub-zero}
 use native.Mathlib.Numerals.{add-one, add-one-le}
 use native.Mathlib.Omega.{arith}
-use lib.ListN.{length, getD, drop, set, length-map}
+use lib.ListN.{length, getD, drop, take, set, length-map}
 use Rattle.sets.specs.Sets.{has, within, _∩_, _∪_, insert, kept, members}
 use Rattle.sets.proofs.Tests.{and-yes, or-left, or-right, or-no}
 use Rattle.sets.proofs.Sets.{∪-assoc, ∪-zero-left, ∪-zero-right}
@@ -25,7 +25,8 @@ use Rattle.scheme.specs.Growing.{familyOf, attributesOf, joins, holding,
 use Rattle.scheme.specs.OfScheme.{pairs, Sides}
 use Rattle.scheme.proofs.Closing.{after}
 use Rattle.scheme.proofs.Lists.{drop-at}
-use Rattle.scheme.proofs.Packing.{Listing, listing-more, listing-same, packed-listing, listing-packed}
+use Rattle.scheme.proofs.Packing.{Listing, listing-more, listing-same, listing-take, packed-listing}
+use Rattle.scheme.proofs.Packing.{listing-packed}
 
 -- ---- one pass: the dependencies from i on, from what is gathered, give what all of them give
 
@@ -126,6 +127,10 @@ pub family-listing : (sets : List ℕ) (H : ℕ) {p : SetList} → p ≡ packed 
     → Listing 32 (familyOf sets H) (p .count) (p .sets)
 unfolding familyOf
 family-listing sets H e = packed-listing e (length-given (λ j. getD sets j 0) H 32)
+
+pub family-whole : (sets : List ℕ) (H : ℕ) {p : SetList} {F : Family} → p ≡ packed (familyOf sets H)
+    → F ≡ take (p .count) (p .sets) → F ≡ familyOf sets H
+family-whole sets H e q = q ∙ listing-take (family-listing sets H e)
 
 -- ---- the attributes of the members
 

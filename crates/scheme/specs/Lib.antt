@@ -2,5 +2,6 @@
 pub mod Dependencies
 pub mod Growing
 pub mod MaximalObjects
+pub mod KeptSets
 pub mod OfScheme
 pub mod Statements

@@ -5,5 +5,7 @@ pub mod Bits
 pub mod Sets
 pub mod Plain
 pub mod Ranks
+pub mod Counts
 pub mod Members
+pub mod Those
 pub mod Theorems

@@ -1,7 +1,8 @@
 -- Sets of attributes and of objects as masks: "A *set* is 32 bits; bit k stands for attribute or object k."
 -- A set is a number, of any width: a width w stands only where members are counted or listed, as the members below w.
 -- In order: membership, containment, intersection, union, difference, one member more and one less, emptiness, rank and
--- count, the lowest member, the list of members. Not here: which sets a book may have (`scheme`, `book`).
+-- count, the lowest member, the list of members, the numbers that pass a test. Not here: which sets a book may have
+-- (`scheme`, `book`).
 -- Assumes nothing.
 use mathlib.Core.Path.{_≡_}
 use mathlib.Core.Bool.{Bool, true, false, not, _&&_, _||_}
@@ -101,3 +102,9 @@ kept false k = []
 unfoldable pub members : ℕ → ℕ → List ℕ
 members zero s = []
 members (suc w) s = members w s ++ kept (has s w) w
+
+-- ---- the numbers below k that pass a test, as a set
+
+unfoldable pub those : (ℕ → Bool) → ℕ → ℕ
+those test zero = 0
+those test (suc k) = elim (test k) [ true ↦ insert (those test k) k | false ↦ those test k ]

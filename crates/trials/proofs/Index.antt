@@ -47,14 +47,14 @@ use Rattle.query.specs.Asking.{itemsOf}
 use Rattle.query.specs.Accepting.{NamedIn, StopsWith as QueryStopsWith}
 use Rattle.query.specs.Faults.{faultOf as queryFault}
 use Rattle.query.specs.Conditions.{conditions as queryConditions}
-use Rattle.query.specs.Reading.{read as readQuery, refusedWith, Outcome as QueryOutcome}
+use Rattle.query.specs.Reading.{read as readQuery, refusedWith, QueryOutcome}
 use Rattle.query.specs.Statements.{FaultyRecord as QueryFaultyRecord, Unended, Ended}
 use Rattle.query.proofs.Theorems.{records-ask, containing-is-the-list}
 use Rattle.sorted.specs.Rows.{rowsIn, Ascending, AllOfKinds}
-use Rattle.plan.specs.Planned.{keptFor, Shows}
-use Rattle.connection.specs.Outcomes.{Outcome, itemCount, cellsNeeded, Good, MoreSerials, AnswerNumberMeans, Demand1}
+use Rattle.scheme.specs.KeptSets.{keptFor, Shows}
+use Rattle.connection.specs.Outcomes.{AnswerOutcome, itemCount, cellsNeeded, Good, MoreSerials, AnswerNumberMeans, Demand1}
 use Rattle.connection.specs.Outcomes.{PromiseE}
-use Rattle.connection.specs.Answering.{answerOf, spaceAfter, number, rowsOf, queryRead, lastSerial}
+use Rattle.connection.specs.Answering.{answerOf, spaceAfter, number, rowsAnswered, queryRead, lastSerial}
 use Rattle.connection.specs.declared.Answer.{Answer}
 use Rattle.connection.specs.Statements.{NamesInRange, AnswerListed, CombinationsGive}
 use Rattle.connection.specs.Answers.{answerRows, InAnswer, itemKinds, Combination, Passes, itemCells, combined}
@@ -115,10 +115,10 @@ demand-3 = promise-e
 -- "comes to an end with either a full answer or one refusal of the fixed list, chosen by the fixed order, and every
 -- cell of the answer space is accounted for in both"
 module _ (b q : List ℕ) (serial : ℕ) (space : List ℕ) where
-  pub demand-1-there : Outcome b q serial space (answerOf b q serial (length space)) (spaceAfter b q serial space)
+  pub demand-1-there : AnswerOutcome b q serial space (answerOf b q serial (length space)) (spaceAfter b q serial space)
   demand-1-there = demand1 b q serial space .there
 
-  pub demand-1-only : (a : Answer) (after : List ℕ) → Outcome b q serial space a after
+  pub demand-1-only : (a : Answer) (after : List ℕ) → AnswerOutcome b q serial space a after
       → (a ≡ answerOf b q serial (length space)) × (after ≡ spaceAfter b q serial space)
   demand-1-only = demand1 b q serial space .only
 
@@ -126,7 +126,7 @@ module _ (b q : List ℕ) (serial : ℕ) (space : List ℕ) where
   demand-1-as-many = demand1 b q serial space .asMany
 
   pub demand-1-front : number b q serial (length space) ≡ 0
-      → rowsIn (itemCount b q) (length (rowsOf b q)) (spaceAfter b q serial space) ≡ rowsOf b q
+      → rowsIn (itemCount b q) (length (rowsAnswered b q)) (spaceAfter b q serial space) ≡ rowsAnswered b q
   demand-1-front = demand1 b q serial space .front
 
   pub demand-1-behind : number b q serial (length space) ≡ 0

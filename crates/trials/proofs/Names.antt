@@ -2,6 +2,11 @@
 -- main theorems say stands in `Index`.
 -- Assumes nothing.
 -- ---- contracts: each is that the function meets its `ensures` for all inputs
+use Rattle.numbers.proofs.wide.Met.{met as numbers-wide}
+use Rattle.numbers.proofs.place.Met.{met as numbers-place}
+use Rattle.numbers.proofs.index.Met.{met as numbers-index}
+use Rattle.numbers.proofs.byte.Met.{met as numbers-byte}
+use Rattle.numbers.proofs.flag.Met.{met as numbers-flag}
 use Rattle.sets.proofs.has.Met.{met as sets-has}
 use Rattle.sets.proofs.within.Met.{met as sets-within}
 use Rattle.sets.proofs.within_each.Met.{met as sets-within-each}
@@ -24,7 +29,6 @@ use Rattle.values.proofs.allowed.Met.{met as values-allowed}
 use Rattle.values.proofs.keeps_rules.Met.{met as values-keeps-rules}
 use Rattle.values.proofs.holds.Met.{met as values-holds}
 use Rattle.values.proofs.matching.Met.{met as values-matching}
-use Rattle.records.proofs.wide.Met.{met as records-wide}
 use Rattle.records.proofs.byte_at.Met.{met as records-byte-at}
 use Rattle.records.proofs.word_at.Met.{met as records-word-at}
 use Rattle.records.proofs.is_kind.Met.{met as records-is-kind}
@@ -68,7 +72,6 @@ use Rattle.choices.proofs.nothing_planned.Met.{met as choices-nothing-planned}
 use Rattle.choices.proofs.choose.Met.{met as choices-choose}
 use Rattle.answer.proofs.answer_book.Met.{met as answer-answer-book}
 use Rattle.answer.proofs.answer_bytes.Met.{met as answer-answer-bytes}
-use Rattle.printout.proofs.wide.Met.{met as printout-wide}
 use Rattle.printout.proofs.decimal_length.Met.{met as printout-decimal-length}
 use Rattle.printout.proofs.put_byte.Met.{met as printout-put-byte}
 use Rattle.printout.proofs.put_decimal.Met.{met as printout-put-decimal}

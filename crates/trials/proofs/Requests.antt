@@ -17,7 +17,7 @@ use Rattle.values.specs.Values.{missing, valueOf, inRange, lessCell, key, match
 use Rattle.values.specs.Statements.{MatchesMean, OperatorsMean, BothStated, AllowedByItsByte, RulesTested}
 use Rattle.values.specs.Statements.{BuiltInKeeps, OrderedAcross, AllowedMeans}
 use Rattle.values.specs.Operators.{Operator, holds, operatorNumber, Means, mirror, opposite}
-use Rattle.values.specs.Table.{allows, keepsRules, Rules, builtIn}
+use Rattle.values.specs.Table.{allows, keepsRules, TableRules, builtIn}
 use Rattle.values.proofs.Theorems.{missing-cells, ordered-by-value, ordered-across, matches-mean, operators-mean}
 use Rattle.values.proofs.Theorems.{table-allows, rules-are-tested, built-in-table-keeps, allowed-means, turned}
 use Rattle.values.proofs.Theorems.{allowed-by-its-byte, in-range-means}
@@ -260,11 +260,11 @@ pub request-7-byte : (table : List ℕ) (operator left right : ℕ) → operator
 unfolding AllowedByItsByte
 request-7-byte = allowed-by-its-byte
 
-pub request-7-rules : (table : List ℕ) → (keepsRules table ≡ true) ↔ Rules table
+pub request-7-rules : (table : List ℕ) → (keepsRules table ≡ true) ↔ TableRules table
 unfolding RulesTested
 request-7-rules = rules-are-tested
 
-pub request-7-built-in : Rules builtIn
+pub request-7-built-in : TableRules builtIn
 unfolding BuiltInKeeps
 request-7-built-in = built-in-table-keeps
 
@@ -279,7 +279,7 @@ pub request-7-allowed : (table : List ℕ) (operator left right a b : ℕ) → a
 unfolding AllowedMeans
 request-7-allowed = allowed-means
 
-pub request-7-turned-allowed : (table : List ℕ) → Rules table → (operator left right : ℕ)
+pub request-7-turned-allowed : (table : List ℕ) → TableRules table → (operator left right : ℕ)
     → allows table (mirror operator) right left ≡ allows table operator left right
 request-7-turned-allowed = turned .allowed
 

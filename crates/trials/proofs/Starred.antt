@@ -5,6 +5,7 @@
 use mathlib.Core.Path.{_≡_, refl}
 use mathlib.Core.List.{List, [], _∷_, _++_, map}
 use Prim.Native.Nat.{ℕ}
+use Rattle.numbers.specs.Numbers.{isNil}
 use Rattle.sets.specs.Sets.{bit, has, within, _∩_, _∪_, _∖_, single, isEmpty, rank, count, members}
 use Rattle.values.specs.Values.{missing, inRange}
 use Rattle.records.specs.Fields.{bytes, value, field}
@@ -39,7 +40,7 @@ use Rattle.query.specs.Asking.{itemOf, itemsOf, comparisonOf, comparisonsOf, na
 use Rattle.query.specs.Asking.{filled, askedOf}
 use Rattle.query.specs.Faults as Queries
 use Rattle.query.specs.Reading as Query
-use Rattle.query.specs.Reading.{isEnd, walkQuery, containing, isNil, unconnected, someUnconnected, wholeNumber, atEnd}
+use Rattle.query.specs.Reading.{isEnd, walkQuery, containing, unconnected, someUnconnected, wholeNumber, atEnd}
 use Rattle.values.specs.Values.{signed, valueOf, lessCell, matches}
 use Rattle.values.specs.Operators.{compares, holds}
 use Rattle.relation.specs.Tables.{projected, project}
@@ -53,7 +54,7 @@ use Rattle.connection.specs.Answers.{itemCells, rightCell, isTrue, allTrue, cel
 use Rattle.connection.specs.Answers.{inFront, choices}
 use Rattle.connection.specs.Answers.{itemKinds, answerRows}
 use Rattle.connection.specs.Answers as Answers
-use Rattle.connection.specs.Answering.{rowsOf, spaceNumber, number}
+use Rattle.connection.specs.Answering.{rowsAnswered, spaceNumber, number}
 use Rattle.connection.proofs.Examples.{queries}
 use Rattle.printout.specs.Decimal.{decimalWithin, decimal, integerText, valueText, cellText}
 use Rattle.printout.specs.Lines.{behind, line, cellTexts, rowLines, headLine, queryRefused, bookRefused}
@@ -238,8 +239,8 @@ all-hold :
 unfolding gapRuns noted noting gaps datedRuns asked club dated refused keepsRules entryKeeps everyBelow mirrored
     withTable withMasks runs run apart first second twelve stopped output queries printout answers answersWithin fullText headLine
     rowLines cellTexts line behind bookRefused queryRefused cellText valueText integerText decimal decimalWithin number
-    spaceNumber rowsOf answerRows itemKinds choices inFront rowsFor cellsOf allTrue isTrue rightCell itemCells
-    Answers.rowsOf connection parts insertRows insertRow lessRow tablesOf Tables.rowsOf Tables.rowOf Tables.cellsOf part
+    spaceNumber rowsAnswered answerRows itemKinds choices inFront rowsFor cellsOf allTrue isTrue rightCell itemCells
+    Answers.rowsChosen connection parts insertRows insertRow lessRow tablesOf Tables.rowsOf Tables.rowOf Tables.cellsOf part
     joinRows goingOn eachPassing matchesAll rowsMatch allPass shownRows together project projected holds compares
     matches lessCell valueOf signed refusal Query.read atEnd wholeNumber someUnconnected unconnected isNil containing
     walkQuery isEnd Queries.faultOf Queries.checks ofQuery askedOf filled attributesNamed naming namesOf nameOf

@@ -12,9 +12,9 @@ use native.Mathlib.Omega.{arith}
 use lib.Dec.{eqb, ltb}
 use lib.ListN.{getD}
 use borrow.Author.Tests as Tests
-use Rattle.values.specs.Values.{name, length, angle, date}
+use Rattle.values.specs.Values.{nameKind, lengthKind, angleKind, dateKind}
 use Rattle.values.specs.Operators.{Operator, operatorNumber, mirror}
-use Rattle.values.specs.Table.{maskHas, entry, allows, builtIn, Rules, mirrored, entryKeeps, everyBelow, keepsRules}
+use Rattle.values.specs.Table.{maskHas, maskAt, allows, builtIn, TableRules, mirrored, entryKeeps, everyBelow, keepsRules}
 use Rattle.values.proofs.Operators.{operator-cases, numbered, number-below}
 
 -- ---- a test below a bound
@@ -85,7 +85,7 @@ unfolding allows
 allows-no-right table operator left right h = simp (Tests.le-ltb right 4 (omega arith), and-false)
 
 pub allows-at : (table : List ℕ) (operator left right : ℕ) → operator < 6 → left < 4 → right < 4
-    → maskHas (entry table left right) operator ≡ allows table operator left right
+    → maskHas (maskAt table left right) operator ≡ allows table operator left right
 unfolding allows
 allows-at table operator left right o l r =
     sym (rw (Tests.lt-ltb operator 6 o, Tests.lt-ltb left 4 l, Tests.lt-ltb right 4 r))
@@ -96,7 +96,7 @@ pub allows-known : (table : List ℕ) (operator left right : ℕ) → allows tab
 unfolding allows
 allows-known table operator left right e =
     let rest =
-    and-eq-true-iff (ltb operator 6 && ltb left 4 && ltb right 4) (maskHas (entry table left right) operator) .0 e in
+    and-eq-true-iff (ltb operator 6 && ltb left 4 && ltb right 4) (maskHas (maskAt table left right) operator) .0 e in
     let rest2 = and-eq-true-iff (ltb operator 6 && ltb left 4) (ltb right 4) .0 (rest .0) in
     let rest3 = and-eq-true-iff (ltb operator 6) (ltb left 4) .0 (rest2 .0) in
     (Tests.ltb-true operator 6 (rest3 .0), Tests.ltb-true left 4 (rest3 .1), Tests.ltb-true right 4 (rest2 .1))
@@ -107,7 +107,7 @@ allows-known table operator left right e =
 unfoldable pub rule : ℕ → ℕ → ℕ → Bool
 rule operator left right =
     eqb left right
-    && ((eqb left name || eqb left angle) && ltb operator 2 || (eqb left length || eqb left date) && ltb operator 6)
+    && ((eqb left nameKind || eqb left angleKind) && ltb operator 2 || (eqb left lengthKind || eqb left dateKind) && ltb operator 6)
 
 pub rule-none : (operator left right : ℕ) → ¬ (left ≡ right) → rule operator left right ≡ false
 unfolding rule
@@ -122,10 +122,10 @@ pub rule-no-left : (operator left right : ℕ) → 3 < left → rule operator le
 unfolding rule
 rule-no-left operator left right h =
     simp (
-      Tests.ne-eqb left name (omega arith),
-      Tests.ne-eqb left length (omega arith),
-      Tests.ne-eqb left angle (omega arith),
-      Tests.ne-eqb left date (omega arith),
+      Tests.ne-eqb left nameKind (omega arith),
+      Tests.ne-eqb left lengthKind (omega arith),
+      Tests.ne-eqb left angleKind (omega arith),
+      Tests.ne-eqb left dateKind (omega arith),
       and-false,
     )
 
@@ -138,11 +138,11 @@ rule-no-right operator left right h = by (ℕ-discrete left right)
 
 -- one test over all entries and operators, which antt computes
 rule-at : (operator left right : ℕ) → operator < 6 → left < 4 → right < 4
-    → maskHas (entry builtIn left right) operator ≡ rule operator left right
+    → maskHas (maskAt builtIn left right) operator ≡ rule operator left right
 unfolding rule everyBelow builtIn
 rule-at operator left right o l r =
     beq-eq _ _
-    (three-below 4 4 6 (λ left right operator. Bool·beq (maskHas (entry builtIn left right) operator) (rule operator left right))
+    (three-below 4 4 6 (λ left right operator. Bool·beq (maskHas (maskAt builtIn left right) operator) (rule operator left right))
     refl left right operator l r o)
 
 pub built-in-rule : (operator left right : ℕ) → allows builtIn operator left right ≡ rule operator left right
@@ -252,7 +252,7 @@ entry-whole table i c m o = rw (Tests.lt-ltb (getD table i 0) 64 c, Tests.eq-eqb
     by (yes z) = rw (Tests.eq-eqb (i % 5) 0 z, Tests.eq-eqb _ 1 (o z))
 
 module _ (table : List ℕ) where
-  keeps-rules : keepsRules table ≡ true → Rules table
+  keeps-rules : keepsRules table ≡ true → TableRules table
   unfolding keepsRules
   keeps-rules e = record {
     clear = λ left right l r. at (left * 4 + right) (omega (arith, l, r)) .0;
@@ -260,24 +260,24 @@ module _ (table : List ℕ) where
         let (c, m, w) = at (left * 4 + right) (omega (arith, l, r)) in
         let place : (left * 4 + right) % 4 * 4 + (left * 4 + right) / 4 ≡ right * 4 + left = omega (arith, l, r) in
         ap (λ (n : ℕ). maskHas n (mirror operator)) (ap (λ (n : ℕ). getD table n 0) (sym place) ∙ sym m)
-        ∙ mirrored-has (entry table left right) operator c o;
+        ∙ mirrored-has (maskAt table left right) operator c o;
     equals = λ kind h.
         let (c, m, w) = at (kind * 4 + kind) (omega (arith, h)) in
-        Tests.eq-eqb (entry table kind kind / 2 ^ 0 % 2) 1 (omega (arith, w (omega arith)));
+        Tests.eq-eqb (maskAt table kind kind / 2 ^ 0 % 2) 1 (omega (arith, w (omega arith)));
   }
     where
       at : (i : ℕ) → i < 16 → (getD table i 0 < 64) × (mirrored (getD table i 0) ≡ getD table (i % 4 * 4 + i / 4) 0)
           × (i % 5 ≡ 0 → getD table i 0 % 2 ≡ 1)
       at i h = entry-parts table i (every-below 16 (entryKeeps table) e i h)
 
-  rules-keep : Rules table → keepsRules table ≡ true
+  rules-keep : TableRules table → keepsRules table ≡ true
   unfolding keepsRules
   rules-keep R = below-every 16 (entryKeeps table) λ i h. keep i h
     where
       keep : (i : ℕ) → i < 16 → entryKeeps table i ≡ true
       keep i h =
           let place : i / 4 * 4 + i % 4 ≡ i = omega arith in
-          let here : getD table i 0 ≡ entry table (i / 4) (i % 4) = ap (λ (n : ℕ). getD table n 0) (sym place) in
+          let here : getD table i 0 ≡ maskAt table (i / 4) (i % 4) = ap (λ (n : ℕ). getD table n 0) (sym place) in
           let l : i / 4 < 4 = omega (arith, h) in
           let r : i % 4 < 4 = omega arith in
           let below = R .clear (i / 4) (i % 4) l r in
@@ -286,15 +286,15 @@ module _ (table : List ℕ) where
           ∙ only-mirrored _ _ below (R .clear (i % 4) (i / 4) r l) (λ operator o. R .mirrors operator (i / 4) (i % 4) o l r))
           (λ z.
           let same : i / 4 ≡ i % 4 = omega (arith, z, h) in
-          let one = Tests.eqb-true (entry table (i / 4) (i / 4) / 2 ^ 0 % 2) 1 (R .equals (i / 4) l) in
-          let there : getD table i 0 ≡ entry table (i / 4) (i / 4) =
+          let one = Tests.eqb-true (maskAt table (i / 4) (i / 4) / 2 ^ 0 % 2) 1 (R .equals (i / 4) l) in
+          let there : getD table i 0 ≡ maskAt table (i / 4) (i / 4) =
           ap (λ (n : ℕ). getD table n 0) (omega (arith, z, h)) in
           omega (arith, there, one))
 
-  pub rules-tested : (keepsRules table ≡ true) ↔ Rules table
+  pub rules-tested : (keepsRules table ≡ true) ↔ TableRules table
   rules-tested = (keeps-rules, rules-keep)
 
-pub built-in-keeps : Rules builtIn
+pub built-in-keeps : TableRules builtIn
 unfolding keepsRules everyBelow entryKeeps mirrored builtIn
 built-in-keeps = rules-tested builtIn .0 refl
 
@@ -304,7 +304,7 @@ mirror-below : (operator : ℕ) → ltb (mirror operator) 6 ≡ ltb operator 6
 unfolding mirror
 mirror-below = operator-cases (λ n. ltb (mirror n) 6 ≡ ltb n 6) refl refl refl refl refl refl (λ n. refl)
 
-pub allows-mirror : (table : List ℕ) → Rules table → (operator left right : ℕ)
+pub allows-mirror : (table : List ℕ) → TableRules table → (operator left right : ℕ)
     → allows table (mirror operator) right left ≡ allows table operator left right
 allows-mirror table R operator left right = by (decLt operator 6) (decLt left 4) (decLt right 4)
   where

@@ -10,20 +10,20 @@ use lib.Dec.{eqb, ltb, leb}
 use lib.IntN.{pos, negsuc}
 use lib.Signed.{ltZ, leZ, _<ℤ_, <ℤ-irrefl, <ℤ-≤ℤ-trans}
 use borrow.Author.Tests as Tests
-use Rattle.values.specs.Values.{length, angle, missing, inRange, signed, valueOf, lessCell, key, raised, matches}
+use Rattle.values.specs.Values.{lengthKind, angleKind, missing, inRange, signed, valueOf, lessCell, key, raised, matches}
 use Rattle.values.specs.Operators.{eqZ}
 use Rattle.values.proofs.Tests.{not-true, yes-both, yes-not, ltb-same, leb-not-ltb, eqb-not-ltb}
 use Rattle.values.proofs.Tests.{leZ-not-ltZ, eqZ-not-ltZ, ltZ-true, <ℤ-≤ℤ}
 
 -- ---- missing cells
 
-pub missing-length : (kind cell : ℕ) → kind ≡ length → missing kind cell ≡ eqb cell (2 ^ 31)
+pub missing-length : (kind cell : ℕ) → kind ≡ lengthKind → missing kind cell ≡ eqb cell (2 ^ 31)
 unfolding missing
-missing-length kind cell e = rw (Tests.eq-eqb kind length e)
+missing-length kind cell e = rw (Tests.eq-eqb kind lengthKind e)
 
-pub missing-other : (kind cell : ℕ) → ¬ (kind ≡ length) → missing kind cell ≡ eqb cell 4294967295
+pub missing-other : (kind cell : ℕ) → ¬ (kind ≡ lengthKind) → missing kind cell ≡ eqb cell 4294967295
 unfolding missing
-missing-other kind cell f = rw (Tests.ne-eqb kind length f)
+missing-other kind cell f = rw (Tests.ne-eqb kind lengthKind f)
 
 pub missing-lengths : (cell : ℕ) → (missing 1 cell ≡ true) ↔ (cell ≡ 2147483648)
 missing-lengths cell = (
@@ -39,7 +39,7 @@ missing-others kind cell f = (
 
 missing-below : (kind cell : ℕ) → missing kind cell ≡ true → cell < 2 ^ 32
 unfolding missing
-missing-below kind cell e = by (eqb kind length) e
+missing-below kind cell e = by (eqb kind lengthKind) e
   where
     by : (t : Bool) → cond t (eqb cell (2 ^ 31)) (eqb cell 4294967295) ≡ true → cell < 2 ^ 32
     by true d = omega (arith, Tests.eqb-true cell (2 ^ 31) d)
@@ -55,27 +55,27 @@ minus-one = (refl, refl)
 
 -- ---- the range
 
-inRange-angle : (kind cell : ℕ) → kind ≡ angle → inRange kind cell ≡ ltb cell 36000 || missing kind cell
+inRange-angle : (kind cell : ℕ) → kind ≡ angleKind → inRange kind cell ≡ ltb cell 36000 || missing kind cell
 unfolding inRange
-inRange-angle kind cell e = rw (Tests.eq-eqb kind angle e)
+inRange-angle kind cell e = rw (Tests.eq-eqb kind angleKind e)
 
-pub inRange-below : (kind cell : ℕ) → kind ≡ angle → cell < 36000 → inRange kind cell ≡ ltb cell 36000
+pub inRange-below : (kind cell : ℕ) → kind ≡ angleKind → cell < 36000 → inRange kind cell ≡ ltb cell 36000
 inRange-below kind cell e h =
     inRange-angle kind cell e ∙ ap (λ (t : Bool). t || missing kind cell) (Tests.lt-ltb cell 36000 h)
     ∙ sym (Tests.lt-ltb cell 36000 h)
 
-pub inRange-above : (kind cell : ℕ) → kind ≡ angle → 36000 ≤ cell → inRange kind cell ≡ missing kind cell
+pub inRange-above : (kind cell : ℕ) → kind ≡ angleKind → 36000 ≤ cell → inRange kind cell ≡ missing kind cell
 inRange-above kind cell e h =
     inRange-angle kind cell e ∙ ap (λ (t : Bool). t || missing kind cell) (Tests.le-ltb cell 36000 h)
 
-pub inRange-other : (kind cell : ℕ) → ¬ (kind ≡ angle) → cell < 2 ^ 32 → inRange kind cell ≡ ltb kind 4
+pub inRange-other : (kind cell : ℕ) → ¬ (kind ≡ angleKind) → cell < 2 ^ 32 → inRange kind cell ≡ ltb kind 4
 unfolding inRange
-inRange-other kind cell f p = rw (Tests.ne-eqb kind angle f, Tests.lt-ltb cell (2 ^ 32) p) (and-true (ltb kind 4))
+inRange-other kind cell f p = rw (Tests.ne-eqb kind angleKind f, Tests.lt-ltb cell (2 ^ 32) p) (and-true (ltb kind 4))
 
 -- a cell in range is one of 32 bits
 pub inRange-lt : (kind cell : ℕ) → inRange kind cell ≡ true → cell < 2 ^ 32
 unfolding inRange
-inRange-lt kind cell e = by (eqb kind angle) e
+inRange-lt kind cell e = by (eqb kind angleKind) e
   where
     angles : (s t : Bool) → ltb cell 36000 ≡ s → missing kind cell ≡ t → s || t ≡ true → cell < 2 ^ 32
     angles true t d m h = omega (arith, Tests.ltb-true cell 36000 d)
@@ -89,14 +89,14 @@ inRange-lt kind cell e = by (eqb kind angle) e
 
 -- a missing cell of a kind that there is is in range
 pub missing-in-range : (kind cell : ℕ) → kind < 4 → missing kind cell ≡ true → inRange kind cell ≡ true
-missing-in-range kind cell h e = by (eqb kind angle) refl
+missing-in-range kind cell h e = by (eqb kind angleKind) refl
   where
-    by : (t : Bool) → eqb kind angle ≡ t → inRange kind cell ≡ true
+    by : (t : Bool) → eqb kind angleKind ≡ t → inRange kind cell ≡ true
     by true d =
-        inRange-angle kind cell (Tests.eqb-true kind angle d)
+        inRange-angle kind cell (Tests.eqb-true kind angleKind d)
         ∙ ap (λ (m : Bool). ltb cell 36000 || m) e ∙ or-true (ltb cell 36000)
     by false d =
-        inRange-other kind cell (Tests.eqb-false kind angle d) (missing-below kind cell e) ∙ Tests.lt-ltb kind 4 h
+        inRange-other kind cell (Tests.eqb-false kind angleKind d) (missing-below kind cell e) ∙ Tests.lt-ltb kind 4 h
 
 pub others-in-range : (kind cell : ℕ) → kind < 4 → ¬ (kind ≡ 2) → cell < 2 ^ 32 → inRange kind cell ≡ true
 others-in-range kind cell h f l = inRange-other kind cell f l ∙ Tests.lt-ltb kind 4 h
@@ -152,13 +152,13 @@ length-key-lt {a} {b} p q = by (halves a) (halves b)
 
 -- ---- keys and values
 
-pub key-length : (kind cell : ℕ) → kind ≡ length → key kind cell ≡ (cell + 2 ^ 31) % 2 ^ 32
+pub key-length : (kind cell : ℕ) → kind ≡ lengthKind → key kind cell ≡ (cell + 2 ^ 31) % 2 ^ 32
 unfolding key
-key-length kind cell e = rw (Tests.eq-eqb kind length e)
+key-length kind cell e = rw (Tests.eq-eqb kind lengthKind e)
 
-pub key-other : (kind cell : ℕ) → ¬ (kind ≡ length) → key kind cell ≡ (cell + 1) % 2 ^ 32
+pub key-other : (kind cell : ℕ) → ¬ (kind ≡ lengthKind) → key kind cell ≡ (cell + 1) % 2 ^ 32
 unfolding key
-key-other kind cell f = rw (Tests.ne-eqb kind length f)
+key-other kind cell f = rw (Tests.ne-eqb kind lengthKind f)
 
 -- an unsigned cell of another kind than lengths
 abbrev otherKey : ℕ → ℕ
@@ -187,7 +187,7 @@ module _ (m : ℕ) (keyOf : ℕ → ℕ) (a b : ℕ) (less : Bool) (zero-key : (
 
 pub less-key : (kind : ℕ) {a b : ℕ} → a < 2 ^ 32 → b < 2 ^ 32 → ltb (key kind a) (key kind b) ≡ lessCell kind a b
 unfolding key lessCell missing valueOf
-less-key kind {a} {b} p q = by (eqb kind length)
+less-key kind {a} {b} p q = by (eqb kind lengthKind)
   where
     by : (t : Bool) → ltb (cond t (lengthKey a) (otherKey a)) (cond t (lengthKey b) (otherKey b))
         ≡ not (cond t (eqb b (2 ^ 31)) (eqb b 4294967295))
@@ -202,7 +202,7 @@ less-key kind {a} {b} p q = by (eqb kind length)
 
 pub key-injective : (kind : ℕ) {a b : ℕ} → a < 2 ^ 32 → b < 2 ^ 32 → key kind a ≡ key kind b → a ≡ b
 unfolding key
-key-injective kind {a} {b} p q e = by (eqb kind length) e
+key-injective kind {a} {b} p q e = by (eqb kind lengthKind) e
   where
     by : (t : Bool) → cond t (lengthKey a) (otherKey a) ≡ cond t (lengthKey b) (otherKey b) → a ≡ b
     by true e′ = omega arith
@@ -263,13 +263,13 @@ less-total kind {a} {b} p q = by (ltb (key kind a) (key kind b)) (ltb (key kind 
 
 -- ---- values of any two kinds
 
-pub raised-length : (kind cell : ℕ) {k : ℕ} → kind ≡ length → k ≡ key kind cell → k ≡ raised kind cell
+pub raised-length : (kind cell : ℕ) {k : ℕ} → kind ≡ lengthKind → k ≡ key kind cell → k ≡ raised kind cell
 unfolding raised
-raised-length kind cell e d = d ∙ sym (rw (Tests.eq-eqb kind length e))
+raised-length kind cell e d = d ∙ sym (rw (Tests.eq-eqb kind lengthKind e))
 
-pub raised-other : (kind cell : ℕ) → ¬ (kind ≡ length) → cell + 2 ^ 31 ≡ raised kind cell
+pub raised-other : (kind cell : ℕ) → ¬ (kind ≡ lengthKind) → cell + 2 ^ 31 ≡ raised kind cell
 unfolding raised
-raised-other kind cell f = sym (rw (Tests.ne-eqb kind length f))
+raised-other kind cell f = sym (rw (Tests.ne-eqb kind lengthKind f))
 
 -- a length beside a value of another kind
 length-below : {a : ℕ} (b : ℕ) → a < 2 ^ 32 → ltb (lengthKey a) (b + 2 ^ 31) ≡ ltZ (signed a) (pos b)
@@ -289,7 +289,7 @@ length-above a {b} q = by (halves b)
 pub raised-lt : (kind kind2 : ℕ) {a b : ℕ} → a < 2 ^ 32 → b < 2 ^ 32
     → ltb (raised kind a) (raised kind2 b) ≡ ltZ (valueOf kind a) (valueOf kind2 b)
 unfolding raised key valueOf
-raised-lt kind kind2 {a} {b} p q = by (eqb kind length) (eqb kind2 length)
+raised-lt kind kind2 {a} {b} p q = by (eqb kind lengthKind) (eqb kind2 lengthKind)
   where
     by : (s t : Bool)
         → ltb (cond s (cond s (lengthKey a) (otherKey a)) (a + 2 ^ 31))
@@ -317,7 +317,7 @@ raised-eq kind kind2 {a} {b} p q =
 -- two cells of one kind with one raised number are one
 pub raised-injective : (kind : ℕ) {a b : ℕ} → a < 2 ^ 32 → b < 2 ^ 32 → raised kind a ≡ raised kind b → a ≡ b
 unfolding raised key
-raised-injective kind {a} {b} p q e = by (eqb kind length) e
+raised-injective kind {a} {b} p q e = by (eqb kind lengthKind) e
   where
     by : (t : Bool)
         → cond t (cond t (lengthKey a) (otherKey a)) (a + 2 ^ 31)

@@ -13,7 +13,7 @@ use lib.IntN.{negsuc}
 use lib.Signed.{_<ℤ_}
 use Rattle.values.specs.Values.{missing, inRange, valueOf, lessCell, key, raised, matches}
 use Rattle.values.specs.Operators.{Operator, operatorNumber, Means, holds, mirror, opposite}
-use Rattle.values.specs.Table.{allows, builtIn, Rules, keepsRules}
+use Rattle.values.specs.Table.{allows, builtIn, TableRules, keepsRules}
 
 -- Which cells are missing: "A length of -2,147,483,648, or 4,294,967,295 in the other kinds (angles too)" (request 5).
 -- Each of a kind that there is is in range; a length that is missing as a cell of another kind is a value, and the
@@ -86,11 +86,11 @@ pub record InRangeMeans : Type 0 where
 
 -- A table passes the test of its rules exactly if it keeps them.
 unfoldable pub RulesTested : Type 0
-RulesTested = (table : List ℕ) → (keepsRules table ≡ true) ↔ Rules table
+RulesTested = (table : List ℕ) → (keepsRules table ≡ true) ↔ TableRules table
 
 -- The built-in table keeps them.
 unfoldable pub BuiltInKeeps : Type 0
-BuiltInKeeps = Rules builtIn
+BuiltInKeeps = TableRules builtIn
 
 -- A comparison that a table allows is one of the six operators and means that neither cell is missing and what that
 -- operator says of the two values, each taken by its own kind.
@@ -107,7 +107,7 @@ AllowedMeans =
 -- holds. Where neither cell is missing, the opposite operator holds exactly if the operator does not; where one is,
 -- neither holds.
 pub record Turned : Type 0 where
-  pub allowed : (table : List ℕ) → Rules table → (operator left right : ℕ)
+  pub allowed : (table : List ℕ) → TableRules table → (operator left right : ℕ)
       → allows table (mirror operator) right left ≡ allows table operator left right
   pub held : (operator kind kind2 a b : ℕ) → holds (mirror operator) kind2 kind b a ≡ holds operator kind kind2 a b
   pub denied : (operator kind kind2 a b : ℕ) → operator < 6 → BothStated kind kind2 a b

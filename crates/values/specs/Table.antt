@@ -15,13 +15,13 @@ abbrev pub maskHas : ℕ → ℕ → Bool
 maskHas mask operator = eqb (mask / 2 ^ operator % 2) 1
 
 -- "byte 4 times left kind plus right kind being that pair's operators"
-abbrev pub entry : List ℕ → ℕ → ℕ → ℕ
-entry table left right = getD table (left * 4 + right) 0
+abbrev pub maskAt : List ℕ → ℕ → ℕ → ℕ
+maskAt table left right = getD table (left * 4 + right) 0
 
 -- What a table allows. A number over 3 is no kind, one over 5 no operator.
 unfoldable pub allows : List ℕ → ℕ → ℕ → ℕ → Bool
 allows table operator left right =
-    ltb operator 6 && ltb left 4 && ltb right 4 && maskHas (entry table left right) operator
+    ltb operator 6 && ltb left 4 && ltb right 4 && maskHas (maskAt table left right) operator
 
 -- "The comparison table .. allows 0 and 1 within names and within angles, all six within lengths and within dates, and
 -- none between different kinds."
@@ -37,11 +37,11 @@ builtIn =
 
 -- "Each entry must be the mirror of the opposite one (less with greater, at most with at least, equal and unequal each
 -- with itself), bits 6 and 7 are clear, and a kind with itself allows equal."
-pub record Rules (table : List ℕ) : Type 0 where
-  pub clear : (left right : ℕ) → left < 4 → right < 4 → entry table left right < 64
+pub record TableRules (table : List ℕ) : Type 0 where
+  pub clear : (left right : ℕ) → left < 4 → right < 4 → maskAt table left right < 64
   pub mirrors : (operator left right : ℕ) → operator < 6 → left < 4 → right < 4
-      → maskHas (entry table right left) (mirror operator) ≡ maskHas (entry table left right) operator
-  pub equals : (kind : ℕ) → kind < 4 → maskHas (entry table kind kind) 0 ≡ true
+      → maskHas (maskAt table right left) (mirror operator) ≡ maskHas (maskAt table left right) operator
+  pub equals : (kind : ℕ) → kind < 4 → maskHas (maskAt table kind kind) 0 ≡ true
 
 -- The same as a test: the mirrors of a mask's operators as one mask, an entry by its place, all entries.
 unfoldable pub mirrored : ℕ → ℕ

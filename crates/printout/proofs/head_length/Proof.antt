@@ -5,8 +5,8 @@ use Rattle.printout.proofs.Texts.{head-counted}
 use Rattle.printout.proofs.head_length.Statement.{statement}
 use Rattle.printout.proofs.head_length.Tie as tie
 
-wide-requires : tie.Need-wide-requires
-wide-requires c κs = search needs
+index-requires : tie.Need-index-requires
+index-requires c κs = search needs
 
 decimal-length-requires : tie.Need-decimal-length-requires
 decimal-length-requires c κs = search needs
@@ -23,16 +23,16 @@ add-result-2 c = search needs
 returns : tie.Need-returns
 returns c =
     let at-decimal-length = c .before in
-    let at-wide = at-decimal-length .before in
-    let start = at-wide .before in
-    head-counted (start .args .serial) (start .args .rows) (at-wide .wide .ensures)
+    let at-index = at-decimal-length .before in
+    let start = at-index .before in
+    head-counted (start .args .serial) (start .args .rows) (at-index .index .ensures)
     (at-decimal-length .decimal-length .ensures) (c .decimal-length2 .ensures)
 
 pub head-length-spec : {M : Type 1} → statement M
 head-length-spec =
     tie.close
     (tie.spec
-    wide-requires
+    index-requires
     decimal-length-requires
     decimal-length-requires-2
     add-result

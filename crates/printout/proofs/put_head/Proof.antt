@@ -8,13 +8,13 @@ use Rattle.printout.proofs.put_head.Tie as tie
 slice-aggregate-put-words : tie.Need-slice-aggregate-put-words
 slice-aggregate-put-words c = search needs
 
-wide-requires : tie.Need-wide-requires
-wide-requires c κs = search needs
+index-requires : tie.Need-index-requires
+index-requires c κs = search needs
 
 put-words-requires : tie.Need-put-words-requires
 put-words-requires c κs =
     let start = c .before .before .before .before in
-    serial-room (start .args .serial) (start .args .rows) (c .wide .ensures) (start .args .out .now) (start .pre)
+    serial-room (start .args .serial) (start .args .rows) (c .index .ensures) (start .args .out .now) (start .pre)
 
 slice-aggregate-put-words-2 : tie.Need-slice-aggregate-put-words-2
 slice-aggregate-put-words-2 c = search needs
@@ -22,18 +22,18 @@ slice-aggregate-put-words-2 c = search needs
 put-words-requires-2 : tie.Need-put-words-requires-2
 put-words-requires-2 c κs =
     let at-put-words = c .before .before .before .before in
-    let at-wide = at-put-words .before in
-    let start = at-wide .before .before .before .before in
-    count-room (start .args .serial) (start .args .rows) (at-wide .wide .ensures) (start .args .out .now)
+    let at-index = at-put-words .before in
+    let start = at-index .before .before .before .before in
+    count-room (start .args .serial) (start .args .rows) (at-index .index .ensures) (start .args .out .now)
     (start .pre) (at-put-words .put-words .ensures .0) (at-put-words .put-words .ensures .1)
 
 put-byte-requires : tie.Need-put-byte-requires
 put-byte-requires c κs =
     let at-put-words2 = c .before .before .before in
     let at-put-words = at-put-words2 .before .before .before .before .before in
-    let at-wide = at-put-words .before in
-    let start = at-wide .before .before .before .before in
-    feed-room (start .args .serial) (start .args .rows) (at-wide .wide .ensures) (start .args .out .now)
+    let at-index = at-put-words .before in
+    let start = at-index .before .before .before .before in
+    feed-room (start .args .serial) (start .args .rows) (at-index .index .ensures) (start .args .out .now)
     (start .pre) (at-put-words .put-words .ensures .0) (at-put-words .put-words .ensures .1)
     (at-put-words2 .put-words2 .ensures .0) (at-put-words2 .put-words2 .ensures .1)
 
@@ -45,9 +45,9 @@ returns c =
     let at-put-byte = c .before .before in
     let at-put-words2 = at-put-byte .before .before .before .before in
     let at-put-words = at-put-words2 .before .before .before .before .before in
-    let at-wide = at-put-words .before in
-    let start = at-wide .before .before .before .before in
-    head-written (start .args .serial) (start .args .rows) (at-wide .wide .ensures) (start .args .out .now)
+    let at-index = at-put-words .before in
+    let start = at-index .before .before .before .before in
+    head-written (start .args .serial) (start .args .rows) (at-index .index .ensures) (start .args .out .now)
     (start .pre) (at-put-words .put-words .ensures .0) (at-put-words .put-words .ensures .1)
     (at-put-words2 .put-words2 .ensures .0) (at-put-words2 .put-words2 .ensures .1)
     (at-put-byte .put-byte .ensures .0) (at-put-byte .put-byte .ensures .1)
@@ -57,7 +57,7 @@ put-head-spec =
     tie.close
     (tie.spec
     slice-aggregate-put-words
-    wide-requires
+    index-requires
     put-words-requires
     slice-aggregate-put-words-2
     put-words-requires-2

@@ -11,10 +11,10 @@ use Rattle.records.proofs.body_length.Statement.{statement}
 use Rattle.records.proofs.body_length.Tie as tie
 use Rattle.records.proofs.body_length.Reads as reads
 use Rattle.records.proofs.body_length.Lts as lts
-use Rattle.records.proofs.index.Reads as index-reads
+use Rattle.numbers.proofs.place.Reads as place-reads
 
-index-requires : tie.Need-index-requires
-index-requires c κs = search needs
+place-requires : tie.Need-place-requires
+place-requires c κs = search needs
 
 mul-at : tie.Need-mul-at
 mul-at c = search needs
@@ -22,20 +22,20 @@ mul-at c = search needs
 add-at : tie.Need-add-at
 add-at c = search needs
 
-array-read-index : tie.Need-array-read-index
-array-read-index c = search needs
+array-read-place : tie.Need-array-read-place
+array-read-place c = search needs
 
-index-requires-2 : tie.Need-index-requires-2
-index-requires-2 c κs = search needs
+place-requires-2 : tie.Need-place-requires-2
+place-requires-2 c κs = search needs
 
 returns : tie.Need-returns
 unfolding bodyLength kinds
-returns c = c .index2 .ensures ∙ ap (λ (i : ℕ). getD kinds (i * 2 + 1) 0) (c .before .before .index .ensures)
+returns c = c .place2 .ensures ∙ ap (λ (i : ℕ). getD kinds (i * 2 + 1) 0) (c .before .before .place .ensures)
 
 returns-2 : tie.Need-returns-2
-returns-2 c = sym (bodyLength-past _ (omega (arith, c .before .index .ensures, c .if1 .left)))
+returns-2 c = sym (bodyLength-past _ (omega (arith, c .before .place .ensures, c .if1 .left)))
 
 pub body-length-spec : {M : Type 1} → statement M
 body-length-spec =
     tie.close
-    (tie.spec index-requires mul-at add-at array-read-index index-requires-2 returns returns-2)
+    (tie.spec place-requires mul-at add-at array-read-place place-requires-2 returns returns-2)

@@ -11,10 +11,10 @@ use Rattle.records.proofs.whose.Statement.{statement}
 use Rattle.records.proofs.whose.Tie as tie
 use Rattle.records.proofs.whose.Reads as reads
 use Rattle.records.proofs.whose.Lts as lts
-use Rattle.records.proofs.index.Reads as index-reads
+use Rattle.numbers.proofs.place.Reads as place-reads
 
-index-requires : tie.Need-index-requires
-index-requires c κs = search needs
+place-requires : tie.Need-place-requires
+place-requires c κs = search needs
 
 mul-at : tie.Need-mul-at
 mul-at c = search needs
@@ -24,10 +24,10 @@ array-read-result c = search needs
 
 returns : tie.Need-returns
 unfolding whose kinds
-returns c = ap (λ (i : ℕ). getD kinds (i * 2) 0) (c .before .index .ensures)
+returns c = ap (λ (i : ℕ). getD kinds (i * 2) 0) (c .before .place .ensures)
 
 returns-2 : tie.Need-returns-2
-returns-2 c = sym (whose-past _ (omega (arith, c .before .index .ensures, c .if1 .left)))
+returns-2 c = sym (whose-past _ (omega (arith, c .before .place .ensures, c .if1 .left)))
 
 pub whose-spec : {M : Type 1} → statement M
-whose-spec = tie.close (tie.spec index-requires mul-at array-read-result returns returns-2)
+whose-spec = tie.close (tie.spec place-requires mul-at array-read-result returns returns-2)

@@ -1,9 +1,9 @@
--- `plan::flag` meets its contract, by cases of the test.
+-- `numbers::flag` meets its contract, by cases of the test.
 -- Assumes nothing.
 use mathlib.Core.Path.{ap, sym}
-use Rattle.plan.specs.Pools.{toℕ}
-use Rattle.plan.proofs.flag.Statement.{statement}
-use Rattle.plan.proofs.flag.Tie as tie
+use Rattle.numbers.specs.Numbers.{toℕ}
+use Rattle.numbers.proofs.flag.Statement.{statement}
+use Rattle.numbers.proofs.flag.Tie as tie
 
 returns : tie.Need-returns
 unfolding toℕ

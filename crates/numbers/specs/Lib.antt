@@ -1,0 +1,2 @@
+-- The definitions of `numbers`. Assumes nothing.
+pub mod Numbers
