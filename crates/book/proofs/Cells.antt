@@ -12,7 +12,7 @@ use borrow.Author.Tests.{eq-eqb, ne-eqb}
 use lib.Dec.{eqb}
 use lib.ListN.{length, getD, drop, drop-of-length-le}
 use lib.Seq.{drop-cons}
-use Rattle.sets.specs.Sets.{has, rank, count}
+use Rattle.sets.specs.Sets.{has, rank, count, ATTRIBUTES}
 use Rattle.sets.proofs.Tests.{and-yes, or-left, or-right, or-no}
 use Rattle.sets.proofs.Sets.{yes-has}
 use Rattle.sets.proofs.Ranks.{rank-lt}
@@ -55,7 +55,7 @@ zero-end {cells} {i = i} v h =
 
 -- no attribute of the set below a has one
 pub record InsideSoFar (kinds : List ℕ) (set : ℕ) (cells : List ℕ) (a : ℕ) : Type 0 where
-  pub inside : a ≤ 32
+  pub inside : a ≤ ATTRIBUTES
   pub none : someOutside kinds set cells a ≡ false
 
 pub inside-start : (kinds : List ℕ) (set : ℕ) (cells : List ℕ) → InsideSoFar kinds set cells 0
@@ -63,17 +63,19 @@ unfolding someOutside
 inside-start kinds set cells = record { inside = omega arith; none = refl }
 
 -- a member of a set of six at most has one of six places
-pub place-in-row : (set a : ℕ) {place : ℕ} → count 32 set ≤ 6 → a < 32 → has set a ≡ true → place ≡ rank set a
+pub place-in-row : (set a : ℕ) {place : ℕ} → count ATTRIBUTES set ≤ 6 → a < ATTRIBUTES → has set a ≡ true
+    → place ≡ rank set a
     → place < 6
 place-in-row set a few h y e = omega (arith, rank-lt (yes-has set a y) h, e)
 
-module _ {kinds : List ℕ} {set : ℕ} {cells : List ℕ} {a : ℕ} (v : InsideSoFar kinds set cells a) (h : a < 32) where
+module _ {kinds : List ℕ} {set : ℕ} {cells : List ℕ} {a : ℕ} (v : InsideSoFar kinds set cells a)
+    (h : a < ATTRIBUTES) where
   -- once one is outside, one is
-  outside-on : someOutside kinds set cells (suc a) ≡ true → true ≡ someOutside kinds set cells 32
+  outside-on : someOutside kinds set cells (suc a) ≡ true → true ≡ someOutside kinds set cells ATTRIBUTES
   unfolding someOutside
   outside-on y =
       sym (le-ind (λ (m : ℕ). someOutside kinds set cells m ≡ true) y
-      (λ m l e. or-left (has set m && not (inRange (getD kinds m 0) (cellOf set cells m))) e) 32 h)
+      (λ m l e. or-left (has set m && not (inRange (getD kinds m 0) (cellOf set cells m))) e) ATTRIBUTES h)
 
   -- the cell of a is the one at its place
   cell-here : {place : ℕ} {r : Bool} → place ≡ rank set a → r ≡ inRange (getD kinds a 0) (getD cells place 0)
@@ -82,7 +84,7 @@ module _ {kinds : List ℕ} {set : ℕ} {cells : List ℕ} {a : ℕ} (v : Inside
   cell-here p e = ap (λ (k : ℕ). inRange (getD kinds a 0) (getD cells k 0)) (sym p) ∙ sym e
 
   pub outside-here : {place : ℕ} {r : Bool} → has set a ≡ true → place ≡ rank set a
-      → r ≡ inRange (getD kinds a 0) (getD cells place 0) → not r ≡ true → true ≡ someOutside kinds set cells 32
+      → r ≡ inRange (getD kinds a 0) (getD cells place 0) → not r ≡ true → true ≡ someOutside kinds set cells ATTRIBUTES
   unfolding someOutside
   outside-here y p e n =
       outside-on (or-right (someOutside kinds set cells a) (and-yes y (ap not (cell-here p e) ∙ n)))
@@ -106,24 +108,25 @@ module _ {kinds : List ℕ} {set : ℕ} {cells : List ℕ} {a : ℕ} (v : Inside
         ∙ or-no (v .none) (ap (λ (b : Bool). b && not (inRange (getD kinds a 0) (cellOf set cells a))) n);
   }
 
-pub inside-end : {kinds : List ℕ} {set : ℕ} {cells : List ℕ} {a : ℕ} → InsideSoFar kinds set cells a → 32 ≤ a
-    → false ≡ someOutside kinds set cells 32
+pub inside-end : {kinds : List ℕ} {set : ℕ} {cells : List ℕ} {a : ℕ} → InsideSoFar kinds set cells a → ATTRIBUTES ≤ a
+    → false ≡ someOutside kinds set cells ATTRIBUTES
 inside-end {kinds} {set} {cells} {a} v h =
-    let e : a ≡ 32 = omega arith in
+    let e : a ≡ ATTRIBUTES = omega arith in
     sym (v .none) ∙ ap (someOutside kinds set cells) e
 
 -- ---- both
 
-module _ (kinds : List ℕ) (set : ℕ) (cells : List ℕ) {n : ℕ} {r : Bool} (e : n ≡ count 32 set)
+module _ (kinds : List ℕ) (set : ℕ) (cells : List ℕ) {n : ℕ} {r : Bool} (e : n ≡ count ATTRIBUTES set)
     (q : r ≡ someNonZero (drop n cells)) where
   pub cells-wrong : r ≡ true → true ≡ wrongCells kinds set cells
   unfolding wrongCells
   cells-wrong y =
-      sym (or-left (someOutside kinds set cells 32) (ap (λ (k : ℕ). someNonZero (drop k cells)) (sym e) ∙ sym q ∙ y))
+      sym (or-left (someOutside kinds set cells ATTRIBUTES) (ap (λ (k : ℕ). someNonZero (drop k cells)) (sym e)
+      ∙ sym q ∙ y))
 
-  pub cells-left : {o : Bool} → r ≡ false → o ≡ someOutside kinds set cells 32 → o ≡ wrongCells kinds set cells
+  pub cells-left : {o : Bool} → r ≡ false → o ≡ someOutside kinds set cells ATTRIBUTES → o ≡ wrongCells kinds set cells
   unfolding wrongCells
   cells-left n p =
       p
-      ∙ ap (λ (b : Bool). b || someOutside kinds set cells 32)
+      ∙ ap (λ (b : Bool). b || someOutside kinds set cells ATTRIBUTES)
       (sym n ∙ q ∙ ap (λ (k : ℕ). someNonZero (drop k cells)) e)

@@ -13,7 +13,7 @@ use borrow.Author.Tests.{eqb-true, eqb-false, not-true, not-false}
 use lib.Dec.{eqb}
 use lib.ListN.{getD, drop}
 use lib.Seq.{getD-drop}
-use Rattle.sets.specs.Sets.{_∈_, _∉_, has, count}
+use Rattle.sets.specs.Sets.{_∈_, _∉_, has, count, ATTRIBUTES, OBJECTS}
 use Rattle.sets.proofs.Tests.{yes-no, yes-and, no-and, yes-or, no-or}
 use Rattle.sets.proofs.Bits.{in-out}
 use Rattle.sets.proofs.Sets.{yes-has, no-has}
@@ -63,20 +63,21 @@ unneeded-zero n cells e i h =
     let past : i ≡ n + (i - n) = omega arith in
     ap (λ (k : ℕ). getD cells k 0) past ∙ sym (getD-drop n cells (i - n) 0) ∙ nonzero-no (drop n cells) e (i - n)
 
-same-unneeded : (set : ℕ) (cells : List ℕ) → Same (someNonZero (drop (count 32 set) cells)) (NonZeroUnneeded set cells)
+same-unneeded : (set : ℕ) (cells : List ℕ)
+    → Same (someNonZero (drop (count ATTRIBUTES set) cells)) (NonZeroUnneeded set cells)
 same-unneeded set cells = record {
   yes = λ e.
-      let p = nonzero-yes (drop (count 32 set) cells) e in
+      let p = nonzero-yes (drop (count ATTRIBUTES set) cells) e in
       record {
-        place = count 32 set + p .0;
+        place = count ATTRIBUTES set + p .0;
         unneeded = omega arith;
-        nonZero = λ z. p .1 (getD-drop (count 32 set) cells (p .0) 0 ∙ z);
+        nonZero = λ z. p .1 (getD-drop (count ATTRIBUTES set) cells (p .0) 0 ∙ z);
       };
-  no = λ e u. u .nonZero (unneeded-zero (count 32 set) cells e (u .place) (u .unneeded));
+  no = λ e u. u .nonZero (unneeded-zero (count ATTRIBUTES set) cells e (u .place) (u .unneeded));
 }
 
 module _ (kinds : List ℕ) (set : ℕ) (cells : List ℕ) where
-  outside-yes : (k : ℕ) → k ≤ 32 → someOutside kinds set cells k ≡ true → OutsideItsKind kinds set cells
+  outside-yes : (k : ℕ) → k ≤ ATTRIBUTES → someOutside kinds set cells k ≡ true → OutsideItsKind kinds set cells
   unfolding someOutside
   outside-yes zero h e = absurd (yes-no e refl)
   outside-yes (suc k) h e =
@@ -112,10 +113,10 @@ module _ (kinds : List ℕ) (set : ℕ) (cells : List ℕ) where
           subst (λ (x : ℕ). inRange (getD kinds x 0) (cellOf set cells x) ≡ true) (sym q)
           (not-false (inRange (getD kinds k 0) (cellOf set cells k)) n)
 
-  same-outside : Same (someOutside kinds set cells 32) (OutsideItsKind kinds set cells)
+  same-outside : Same (someOutside kinds set cells ATTRIBUTES) (OutsideItsKind kinds set cells)
   same-outside = record {
-    yes = outside-yes 32 (le-refl 32);
-    no = λ e o. yes-no (outside-no 32 e (o .attribute) (o .below) (o .member)) (o .outside);
+    yes = outside-yes ATTRIBUTES (le-refl ATTRIBUTES);
+    no = λ e o. yes-no (outside-no ATTRIBUTES e (o .attribute) (o .below) (o .member)) (o .outside);
   }
 
   same-wrong : Same (wrongCells kinds set cells) (NonZeroUnneeded set cells ⊎ OutsideItsKind kinds set cells)
@@ -128,7 +129,7 @@ row-agrees : (s : Scheme) (object : ℕ) (cells : List ℕ) → Agree (rowChecks
     cells)
 unfolding rowChecks rowConditions
 row-agrees s object cells =
-    next (same-lt 31 object) (next (same-absent (s .objects) object)
+    next (same-le OBJECTS object) (next (same-absent (s .objects) object)
     (next (same-wrong (s .kinds) (getD (s .sets) object 0) cells) ended))
 
 maximal-agrees : (s : Scheme) (n set : ℕ) → Agree (maximalChecks s n set) (maximalConditions s n set)
@@ -144,9 +145,9 @@ same-rules table = record {
 agrees : (s : Scheme) (r : Record) → Agree (checks s r) (conditions s r)
 unfolding checks conditions
 agrees s (OfBook (Attribute id kind)) =
-    next (same-or (same-lt 31 id) (same-lt 3 kind)) (next (same-has (s .attributes) id) ended)
+    next (same-or (same-le ATTRIBUTES id) (same-lt 3 kind)) (next (same-has (s .attributes) id) ended)
 agrees s (OfBook (Object number set)) =
-    next (same-or-three (same-lt 31 number) (same-empty set) (same-lt 6 (count 32 set)))
+    next (same-or-three (same-le OBJECTS number) (same-empty set) (same-lt 6 (count ATTRIBUTES set)))
     (next (same-has (s .objects) number) (next (same-not-within set (s .attributes)) ended))
 agrees s (OfBook (Dependency left right)) =
     next (same-le 64 (s .dependencies)) (next (same-or (same-empty left) (same-empty right))

@@ -28,7 +28,7 @@ use Rattle.records.specs.declared.BookRecord.the-variants.{ComparisonTable}
 use Rattle.records.proofs.Checks.{none-first}
 use Rattle.scheme.specs.declared.Scheme.{Scheme}
 use Rattle.scheme.specs.Statements.{SomeObjects}
-use Rattle.sets.specs.Sets.{_∈_, _∉_, has, within, isEmpty, count}
+use Rattle.sets.specs.Sets.{_∈_, _∉_, has, within, isEmpty, count, ATTRIBUTES, OBJECTS}
 use Rattle.sets.proofs.Tests.{no-or}
 use Rattle.sets.proofs.Sets.{yes-has, no-has, yes-within, no-isEmpty}
 use Rattle.book.specs.Faults.{wrongCells, rowChecks, maximalChecks, checks, faultOf}
@@ -43,13 +43,13 @@ pub same-fault : (s : Scheme) {r q : BookRecord} → r ≡ q → faultOf s (OfBo
 same-fault s e f = ap (λ (r : BookRecord). faultOf s (OfBook r)) (sym e) ∙ f
 
 pub record NewAttribute (s : Scheme) (id kind : ℕ) : Type 0 where
-  pub below : id < 32
+  pub below : id < ATTRIBUTES
   pub known : kind < 4
   pub new : id ∉ s .attributes
 
 pub record NewObject (s : Scheme) (number set : ℕ) : Type 0 where
-  pub below : number < 32
-  pub six : count 32 set ≤ 6
+  pub below : number < OBJECTS
+  pub six : count ATTRIBUTES set ≤ 6
   pub new : number ∉ s .objects
   pub some : SomeAttributes (s .attributes) set
 
@@ -77,11 +77,11 @@ pub attribute-accepted : (s : Scheme) (id kind : ℕ) → faultOf s (OfBook (Att
     → NewAttribute s id kind
 unfolding faultOf checks
 attribute-accepted s id kind e =
-    let range = none-first (ltb 31 id || ltb 3 kind) 5 _ (λ z. omega arith) e in
-    let small = no-or (ltb 31 id) (ltb 3 kind) (range .0) in
+    let range = none-first (leb ATTRIBUTES id || ltb 3 kind) 5 _ (λ z. omega arith) e in
+    let small = no-or (leb ATTRIBUTES id) (ltb 3 kind) (range .0) in
     let new = none-first (has (s .attributes) id) 6 _ (λ z. omega arith) (range .1) in
     record {
-      below = omega (arith, ltb-false 31 id (small .0));
+      below = omega (arith, leb-false ATTRIBUTES id (small .0));
       known = omega (arith, ltb-false 3 kind (small .1));
       new = no-has (s .attributes) id (new .0);
     }
@@ -90,14 +90,15 @@ pub object-accepted : (s : Scheme) (number set : ℕ) → faultOf s (OfBook (Obj
     → NewObject s number set
 unfolding faultOf checks
 object-accepted s number set e =
-    let range = none-first (ltb 31 number || isEmpty set || ltb 6 (count 32 set)) 5 _ (λ z. omega arith) e in
-    let few = no-or (ltb 31 number || isEmpty set) (ltb 6 (count 32 set)) (range .0) in
-    let filled = no-or (ltb 31 number) (isEmpty set) (few .0) in
+    let range = none-first (leb OBJECTS number || isEmpty set || ltb 6 (count ATTRIBUTES set)) 5 _
+    (λ z. omega arith) e in
+    let few = no-or (leb OBJECTS number || isEmpty set) (ltb 6 (count ATTRIBUTES set)) (range .0) in
+    let filled = no-or (leb OBJECTS number) (isEmpty set) (few .0) in
     let new = none-first (has (s .objects) number) 6 _ (λ z. omega arith) (range .1) in
     let inside = none-first (not (within set (s .attributes))) 7 _ (λ z. omega arith) (new .1) in
     record {
-      below = omega (arith, ltb-false 31 number (filled .0));
-      six = ltb-false 6 (count 32 set) (few .1);
+      below = omega (arith, leb-false OBJECTS number (filled .0));
+      six = ltb-false 6 (count ATTRIBUTES set) (few .1);
       new = no-has (s .objects) number (new .0);
       some = some-attributes set (filled .1) (inside .0);
     }
@@ -147,7 +148,7 @@ pub row-accepted : (s : Scheme) (object c0 c1 c2 c3 c4 c5 : ℕ) → faultOf s (
     → KnownRow s object (c0 ∷ c1 ∷ c2 ∷ c3 ∷ c4 ∷ c5 ∷ [])
 unfolding faultOf checks rowChecks
 row-accepted s object c0 c1 c2 c3 c4 c5 e =
-    let below = none-first (ltb 31 object) 5 _ (λ z. omega arith) e in
+    let below = none-first (leb OBJECTS object) 5 _ (λ z. omega arith) e in
     let known = none-first (not (has (s .objects) object)) 7 _ (λ z. omega arith) (below .1) in
     let right = none-first _ 5 [] (λ z. omega arith) (known .1) in
     record { declared = yes-has (s .objects) object (not-false (has (s .objects) object) (known .0)); right = right .0 }

@@ -7,7 +7,7 @@ use mathlib.Core.Bool.{false}
 use mathlib.Core.List.{List, [], _∷_, _++_, map, flatMap}
 use Prim.Native.Nat.{ℕ}
 use lib.ListN.{length, take, replicate}
-use Rattle.sets.specs.Sets.{bit, has, within, _∩_, _∪_, _∖_, single, isEmpty, rank, members}
+use Rattle.sets.specs.Sets.{bit, has, within, _∩_, _∪_, _∖_, single, isEmpty, rank, members, ATTRIBUTES}
 use Rattle.values.specs.Values.{missing, inRange}
 use Rattle.values.specs.Table.{builtIn, mirrored, entryKeeps, everyBelow, keepsRules}
 use Rattle.reduction.specs.Kept.{union, around, someHolds, removable, stays, staying, settle, left, acyclic, goesFor}
@@ -164,7 +164,7 @@ trials-hold = refl
 -- a scheme with so many of each behind it: attributes 0 to 6, names; object 31 of attributes 0 to 5
 unfoldable pub having : ℕ → ℕ → ℕ → ℕ → Scheme
 having dependencies declarations removals tables = record {
-  kinds = replicate 32 0;
+  kinds = replicate ATTRIBUTES 0;
   attributes = 127;
   sets = replicate 31 0 ++ 63 ∷ [];
   objects = 2147483648;

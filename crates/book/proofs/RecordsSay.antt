@@ -14,7 +14,7 @@ use borrow.Author.Tests.{eq-eqb, ne-eqb}
 use lib.Dec.{eqb}
 use lib.ListN.{length, getD, take, drop, set, length-append}
 use lib.Seq.{getD-set-same, getD-set-other}
-use Rattle.sets.specs.Sets.{_∈_, _∉_, insert, single, rank, members}
+use Rattle.sets.specs.Sets.{_∈_, _∉_, insert, single, rank, members, ATTRIBUTES, OBJECTS}
 use Rattle.sets.proofs.Bits.{in-out, not-in}
 use Rattle.sets.proofs.Numbers.{eq-or-ne}
 use Rattle.sets.proofs.Ranks.{rank-lt}
@@ -172,11 +172,11 @@ unfolding nothingDeclared pairs
 nothing-said = record {
   attributes = record {
     exactly = λ i v. (λ m. absurd (List·Memᴰ·not-nil m), λ p. absurd (in-out (p .0) (zero-out i)));
-    nothingElse = λ i o. getD-zeros 32 i;
+    nothingElse = λ i o. getD-zeros ATTRIBUTES i;
   };
   objects = record {
     exactly = λ i v. (λ m. absurd (List·Memᴰ·not-nil m), λ p. absurd (in-out (p .0) (zero-out i)));
-    nothingElse = λ i o. getD-zeros 32 i;
+    nothingElse = λ i o. getD-zeros OBJECTS i;
   };
   dependencies = ended;
   leftBehind = λ i h. getD-zeros 64 i;
@@ -550,18 +550,18 @@ tableAt-map f (x ∷ l) {n = suc n} h = tableAt-map f l (le-of-suc-le-suc h)
 
 -- the table at the rank of an object of M is its own
 pub table-said : {b : List ℕ} {rs : List Record} {at : ℕ} (o : Outcome) → RowsSaid b rs (o .rows) at
-    → (M : ℕ) {k : ℕ} → k < 32 → k ∈ M → TableSaid rs (o .scheme) k (Tables.tableAt (tablesOf b o M) (rank M k))
+    → (M : ℕ) {k : ℕ} → k < OBJECTS → k ∈ M → TableSaid rs (o .scheme) k (Tables.tableAt (tablesOf b o M) (rank M k))
 unfolding tablesOf
 table-said {b} {rs} o v M {k} h i =
     subst (TableSaid rs (o .scheme) k)
-    (sym (tableAt-map table (members 32 M) there ∙ ap table (getD-members 32 0 h i)))
+    (sym (tableAt-map table (members OBJECTS M) there ∙ ap table (getD-members OBJECTS 0 h i)))
     (record { setIs = refl; rowsAre = v .ofObject k })
   where
     table : ℕ → Tables.Table
     table j = record { set = getD (o .scheme .sets) j 0; rows = rowsOf b (o .rows) j }
 
-    there : rank M k < length (members 32 M)
-    there = subst (λ (n : ℕ). rank M k < n) (sym (length-members 32 M)) (rank-lt i h)
+    there : rank M k < length (members OBJECTS M)
+    there = subst (λ (n : ℕ). rank M k < n) (sym (length-members OBJECTS M)) (rank-lt i h)
 
 -- ---- the row of a record in bytes
 

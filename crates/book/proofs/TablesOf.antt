@@ -11,7 +11,7 @@ use borrow.Author.Tests.{eqb-true}
 use lib.Dec.{eqb}
 use lib.ListN.{getD, drop, set}
 use lib.Seq.{getD-set-other}
-use Rattle.sets.specs.Sets.{_∈_, single, count, members}
+use Rattle.sets.specs.Sets.{_∈_, single, count, members, ATTRIBUTES, OBJECTS}
 use Rattle.sets.proofs.Tests.{no-or}
 use Rattle.sets.proofs.Bits.{in-out, member-lt}
 use Rattle.sets.proofs.Sets.{∪-left}
@@ -57,13 +57,14 @@ unfolding wrongCells
 in-range {s} {object} c0 c1 c2 c3 c4 c5 v k =
     let cells : List ℕ = c0 ∷ c1 ∷ c2 ∷ c3 ∷ c4 ∷ c5 ∷ [] in
     let set : ℕ = getD (s .sets) object 0 in
-    let right = no-or (someNonZero (drop (count 32 set) cells)) (someOutside (s .kinds) set cells 32) (k .right) in
+    let right = no-or (someNonZero (drop (count ATTRIBUTES set) cells)) (someOutside (s .kinds) set cells ATTRIBUTES)
+    (k .right) in
     record {
       long = refl;
-      unneeded = unneeded-zero (count 32 set) cells (right .0);
+      unneeded = unneeded-zero (count ATTRIBUTES set) cells (right .0);
       needed = λ a i.
-          outside-no (s .kinds) set cells 32 (right .1) a
-          (member-lt 32 (v .attributesBelow) (v .objectSets object (k .declared) .some .inside .each i)) i;
+          outside-no (s .kinds) set cells ATTRIBUTES (right .1) a
+          (member-lt ATTRIBUTES (v .attributesBelow) (v .objectSets object (k .declared) .some .inside .each i)) i;
     }
 
 row-at : {b : List ℕ} {s : Scheme} {at next object : ℕ} (c0 c1 c2 c3 c4 c5 : ℕ) → WellFormed s
@@ -185,7 +186,7 @@ pub tables-family : (b : List ℕ) (o : Outcome) (M : ℕ) → family (tablesOf 
 unfolding tablesOf familyOf
 tables-family b o M =
     map-map (λ (T : Table). T .set)
-    (λ (k : ℕ). record { set = getD (o .scheme .sets) k 0; rows = rowsOf b (o .rows) k }) (members 32 M)
+    (λ (k : ℕ). record { set = getD (o .scheme .sets) k 0; rows = rowsOf b (o .rows) k }) (members OBJECTS M)
 
 pub tables-in-range : {b : List ℕ} {rs : List Record} {at : ℕ} (o : Outcome) → Accepted b rs (o .scheme) (o .rows) at
     → (M : ℕ) (T : Table) → List·Memᴰ T (tablesOf b o M) → (row : Tables.Row) → List·Memᴰ row (T .rows)
@@ -196,6 +197,6 @@ tables-in-range {b} o a M T m row i =
       set = getD (o .scheme .sets) k 0;
       rows = rowsOf b (o .rows) k;
     })
-    (members 32 M) m in
+    (members OBJECTS M) m in
     subst (λ (U : Table). List·Memᴰ row (U .rows) → InRange (o .scheme .kinds) (U .set) row) (p .2)
     (λ j. rows-in-range (p .0) (o .rows) (accepted-rows-at a) j) i

@@ -12,7 +12,7 @@ use native.Mathlib.Numerals.{add-one, add-one-le}
 use native.Mathlib.Omega.{arith}
 use lib.ListN.{length, getD, take, set, length-set}
 use lib.Seq.{take-suc-set, getD-set-same, getD-set-other}
-use Rattle.sets.specs.Sets.{bit, _∈_, _∉_, _⊆_, insert, single, rank, count, members}
+use Rattle.sets.specs.Sets.{bit, _∈_, _∉_, _⊆_, insert, single, rank, count, members, ATTRIBUTES, OBJECTS}
 use Rattle.sets.proofs.Bits.{in-out, not-in, member-or-not}
 use Rattle.sets.proofs.Numbers.{eq-or-ne}
 use Rattle.sets.proofs.Sets.{∪-cases, ∪-left, in-single, insert-in, ⊆-∪-left, ⊆-trans, ∪-lt, single-lt, zero-out, ⊆-le}
@@ -54,8 +54,8 @@ objects-wider w v = record { filled = v .filled; inside = ⊆-trans (v .inside) 
 insert-wider : (s k : ℕ) → s ⊆ insert s k
 insert-wider s k = ⊆-∪-left s (single k)
 
-insert-below : (s k : ℕ) → s < 2 ^ 32 → k < 32 → insert s k < 2 ^ 32
-insert-below s k h l = ∪-lt 32 h (single-lt 32 l)
+insert-below : (w s k : ℕ) → s < 2 ^ w → k < w → insert s k < 2 ^ w
+insert-below w s k h l = ∪-lt w h (single-lt w l)
 
 -- ---- lists with one more at the end
 
@@ -101,10 +101,10 @@ nothing-well-formed = record {
   arrays = nothing-arrays;
   attributesBelow = omega arith;
   objectsBelow = omega arith;
-  kindsBelow = λ a. subst (λ (x : ℕ). x < 4) (sym (getD-zeros 32 a)) (omega arith);
+  kindsBelow = λ a. subst (λ (x : ℕ). x < 4) (sym (getD-zeros ATTRIBUTES a)) (omega arith);
   rules = built-in-keeps;
   objectSets = λ k i. absurd (in-out i (zero-out k));
-  otherSets = λ k o. getD-zeros 32 k;
+  otherSets = λ k o. getD-zeros OBJECTS k;
   sides = λ d m. absurd (List·Memᴰ·not-nil m);
   declaredSets = λ M m. absurd (List·Memᴰ·not-nil m);
   removedSets = λ M m. absurd (List·Memᴰ·not-nil m);
@@ -124,7 +124,7 @@ module _ {s : Scheme} (v : WellFormed s) where
       dependencies = v .arrays .dependencies;
       maximal = v .arrays .maximal;
     };
-    attributesBelow = insert-below (s .attributes) id (v .attributesBelow) (n .below);
+    attributesBelow = insert-below ATTRIBUTES (s .attributes) id (v .attributesBelow) (n .below);
     objectsBelow = v .objectsBelow;
     kindsBelow = λ a. changed (λ (x : ℕ). x < 4) (s .kinds) id kind a (n .known) (v .kindsBelow a);
     rules = v .rules;
@@ -183,7 +183,7 @@ module _ {s : Scheme} (v : WellFormed s) where
         maximal = v .arrays .maximal;
       };
       attributesBelow = v .attributesBelow;
-      objectsBelow = insert-below (s .objects) number (v .objectsBelow) (n .below);
+      objectsBelow = insert-below OBJECTS (s .objects) number (v .objectsBelow) (n .below);
       kindsBelow = v .kindsBelow;
       rules = v .rules;
       objectSets = object-sets;
@@ -341,30 +341,31 @@ accepted-well-formed (one {s = h} {r = r} a e f l) = declare-well-formed (h .sch
 -- ---- what a caller needs of it
 
 module _ {s : Scheme} (v : WellFormed s) where
-  -- the set of any place is one of attributes 0 to 31, six at most
-  place-below : (k : ℕ) → getD (s .sets) k 0 < 2 ^ 32
+  -- the set of any place is one of attributes, six at most
+  place-below : (k : ℕ) → getD (s .sets) k 0 < 2 ^ ATTRIBUTES
   place-below k =
       ⊎-elim (λ i. lt-of-le-of-lt (⊆-le (v .objectSets k i .some .inside)) (v .attributesBelow))
-      (λ o. subst (λ (x : ℕ). x < 2 ^ 32) (sym (v .otherSets k o)) (omega arith)) (member-or-not k (s .objects))
+      (λ o. subst (λ (x : ℕ). x < 2 ^ ATTRIBUTES) (sym (v .otherSets k o)) (omega arith)) (member-or-not k (s .objects))
 
   pub well-formed-six : SixAtMost s
   unfolding rank bit
   well-formed-six = record {
     six = λ k. ⊎-elim (λ i. v .objectSets k i .six)
-        (λ o. subst (λ (x : ℕ). count 32 x ≤ 6) (sym (v .otherSets k o)) (omega arith)) (member-or-not k (s .objects));
+        (λ o. subst (λ (x : ℕ). count ATTRIBUTES x ≤ 6) (sym (v .otherSets k o)) (omega arith))
+        (member-or-not k (s .objects));
   }
 
   pub sets-of-attributes : OfAttributes (s .sets)
   sets-of-attributes = record {
-    bounded = λ x m. let p = place-of m in subst (λ (y : ℕ). y < 2 ^ 32) (p .holds) (place-below (p .place));
+    bounded = λ x m. let p = place-of m in subst (λ (y : ℕ). y < 2 ^ ATTRIBUTES) (p .holds) (place-below (p .place));
   }
 
   pub family-of-attributes : (M : ℕ) → OfAttributes (familyOf (s .sets) M)
   unfolding familyOf
   family-of-attributes M = record {
     bounded = λ x m.
-        let p = Memᴰ·of-map (λ (k : ℕ). getD (s .sets) k 0) (members 32 M) m in
-        subst (λ (y : ℕ). y < 2 ^ 32) (p .2) (place-below (p .0));
+        let p = Memᴰ·of-map (λ (k : ℕ). getD (s .sets) k 0) (members OBJECTS M) m in
+        subst (λ (y : ℕ). y < 2 ^ ATTRIBUTES) (p .2) (place-below (p .0));
   }
 
   pub scheme-bounded : Bounded (dependenciesOf s) (s .sets) (s .objects)

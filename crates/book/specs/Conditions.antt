@@ -8,7 +8,7 @@ use mathlib.Core.Logic.{_⊎_}
 use mathlib.Core.List.{List, [], _∷_}
 use Prim.Native.Nat.{ℕ, _≤_, _<_}
 use lib.ListN.{getD}
-use Rattle.sets.specs.Sets.{_∈_, _∉_, _⊆_, count}
+use Rattle.sets.specs.Sets.{_∈_, _∉_, _⊆_, count, ATTRIBUTES, OBJECTS}
 use Rattle.values.specs.Values.{inRange}
 use Rattle.records.specs.Checks.{Condition, _gives_}
 use Rattle.values.specs.Table.{TableRules}
@@ -25,14 +25,14 @@ use Rattle.scheme.specs.declared.Scheme.{Scheme}
 -- "a non-zero unneeded cell": one at a place from the count of the object's attributes on
 pub record NonZeroUnneeded (set : ℕ) (cells : List ℕ) : Type 0 where
   pub place : ℕ
-  pub unneeded : count 32 set ≤ place
+  pub unneeded : count ATTRIBUTES set ≤ place
   pub nonZero : getD cells place 0 ≡ 0 → ⊥
 
 -- an attribute of the object has a cell outside the range of its kind. Of value kinds 0 to 3 only angles have such
 -- cells: "an angle over 35,999"
 pub record OutsideItsKind (kinds : List ℕ) (set : ℕ) (cells : List ℕ) : Type 0 where
   pub attribute : ℕ
-  pub below : attribute < 32
+  pub below : attribute < ATTRIBUTES
   pub member : attribute ∈ set
   pub outside : inRange (getD kinds attribute 0) (cellOf set cells attribute) ≡ false
 
@@ -41,7 +41,7 @@ pub record OutsideItsKind (kinds : List ℕ) (set : ℕ) (cells : List ℕ) : Ty
 -- "For a row, once its object is known, a non-zero unneeded cell or an angle over 35,999 is 5."
 unfoldable pub rowConditions : Scheme → ℕ → List ℕ → List Condition
 rowConditions s object cells =
-    (31 < object gives 5)
+    (OBJECTS ≤ object gives 5)
     ∷ (object ∉ s .objects gives 7)
     ∷ (NonZeroUnneeded (getD (s .sets) object 0) cells ⊎ OutsideItsKind (s .kinds) (getD (s .sets) object 0) cells
     gives 5)
@@ -59,11 +59,11 @@ maximalConditions s n set =
 -- attributes 5; attribute or object already declared 6; attribute or object not declared 7."
 unfoldable pub conditions : Scheme → Record → List Condition
 conditions s (OfBook (Attribute id kind)) =
-    ((31 < id) ⊎ (3 < kind) gives 5)
+    ((ATTRIBUTES ≤ id) ⊎ (3 < kind) gives 5)
     ∷ (id ∈ s .attributes gives 6)
     ∷ []
 conditions s (OfBook (Object number set)) =
-    ((31 < number) ⊎ (set ≡ 0) ⊎ (6 < count 32 set) gives 5)
+    ((OBJECTS ≤ number) ⊎ (set ≡ 0) ⊎ (6 < count ATTRIBUTES set) gives 5)
     ∷ (number ∈ s .objects gives 6)
     ∷ ((set ⊆ s .attributes → ⊥) gives 7)
     ∷ []

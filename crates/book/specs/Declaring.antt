@@ -5,7 +5,7 @@ use mathlib.Core.Bool.{true, false}
 use mathlib.Core.List.{List}
 use Prim.Native.Nat.{ℕ, _+_}
 use lib.ListN.{set, replicate}
-use Rattle.sets.specs.Sets.{insert}
+use Rattle.sets.specs.Sets.{insert, ATTRIBUTES, OBJECTS}
 use Rattle.values.specs.Table.{builtIn}
 use Rattle.records.specs.Records.{masksOf}
 use Rattle.records.specs.declared.Record.{Record}
@@ -28,9 +28,9 @@ nothingOfMaximal = record {
 
 unfoldable pub nothingDeclared : Scheme
 nothingDeclared = record {
-  kinds = replicate 32 0;
+  kinds = replicate ATTRIBUTES 0;
   attributes = 0;
-  sets = replicate 32 0;
+  sets = replicate OBJECTS 0;
   objects = 0;
   left = replicate 64 0;
   right = replicate 64 0;

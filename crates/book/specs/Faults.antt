@@ -7,7 +7,7 @@ use mathlib.Core.List.{List, [], _∷_}
 use Prim.Native.Nat.{ℕ, zero, suc, _≤_}
 use lib.Dec.{eqb, ltb, leb}
 use lib.ListN.{getD, drop}
-use Rattle.sets.specs.Sets.{has, within, isEmpty, count}
+use Rattle.sets.specs.Sets.{has, within, isEmpty, count, ATTRIBUTES, OBJECTS}
 use Rattle.values.specs.Values.{inRange}
 use Rattle.records.specs.Checks.{firstOf}
 use Rattle.values.specs.Table.{keepsRules}
@@ -34,18 +34,18 @@ someOutside kinds set cells (suc k) =
 
 -- "a non-zero unneeded cell or an angle over 35,999"
 unfoldable pub wrongCells : List ℕ → ℕ → List ℕ → Bool
-wrongCells kinds set cells = someNonZero (drop (count 32 set) cells) || someOutside kinds set cells 32
+wrongCells kinds set cells = someNonZero (drop (count ATTRIBUTES set) cells) || someOutside kinds set cells ATTRIBUTES
 
 -- ---- the checks of a record, in a scheme of what stands before it
 
 -- "An object has one to six attributes": no set of the scheme has more
 pub record SixAtMost (s : Scheme) : Type 0 where
-  pub six : (k : ℕ) → count 32 (getD (s .sets) k 0) ≤ 6
+  pub six : (k : ℕ) → count ATTRIBUTES (getD (s .sets) k 0) ≤ 6
 
 -- the checks of a row: "For a row, once its object is known, a non-zero unneeded cell or an angle over 35,999 is 5."
 unfoldable pub rowChecks : Scheme → ℕ → List ℕ → List (Bool × ℕ)
 rowChecks s object cells =
-    (ltb 31 object, 5)
+    (leb OBJECTS object, 5)
     ∷ (not (has (s .objects) object), 7)
     ∷ (wrongCells (s .kinds) (getD (s .sets) object 0) cells, 5)
     ∷ []
@@ -62,11 +62,11 @@ maximalChecks s n set =
 -- attributes 5; attribute or object already declared 6; attribute or object not declared 7."
 unfoldable pub checks : Scheme → Record → List (Bool × ℕ)
 checks s (OfBook (Attribute id kind)) =
-    (ltb 31 id || ltb 3 kind, 5)
+    (leb ATTRIBUTES id || ltb 3 kind, 5)
     ∷ (has (s .attributes) id, 6)
     ∷ []
 checks s (OfBook (Object number set)) =
-    (ltb 31 number || isEmpty set || ltb 6 (count 32 set), 5)
+    (leb OBJECTS number || isEmpty set || ltb 6 (count ATTRIBUTES set), 5)
     ∷ (has (s .objects) number, 6)
     ∷ (not (within set (s .attributes)), 7)
     ∷ []

@@ -13,7 +13,7 @@ use Rattle.records.specs.declared.Record.{Record}
 use Rattle.records.specs.declared.Reading.{Reading}
 use Rattle.records.specs.declared.Reading.the-variants.{Nothing, Unknown, Short, Found}
 use Rattle.scheme.specs.declared.Scheme.{Scheme}
-use Rattle.scheme.specs.OfScheme.{maximalOf, bothOf, cyclicOf}
+use Rattle.scheme.specs.OfScheme.{MAXIMALS, maximalOf, bothOf, cyclicOf}
 use Rattle.reduction.specs.Packed.{padded}
 use Rattle.book.specs.declared.Book.{Book}
 use Rattle.book.specs.declared.Walked.{Walked}
@@ -108,10 +108,10 @@ unfoldable pub maximalsOf : Outcome → List ℕ
 maximalsOf o =
     elim (eqb (o .number) 0 || eqb (o .number) 21 || eqb (o .number) 9) [ true ↦ maximalOf (o .scheme) | false ↦ [] ]
 
--- a number, a count of rows, a scheme and a list of maximal objects, of which there are 40 at most, with 0 behind them
+-- a number, a count of rows, a scheme and a list of maximal objects, at most MAXIMALS, with 0 behind them
 unfoldable pub bookWith : ℕ → ℕ → Scheme → List ℕ → Book
 bookWith number rows s l =
-    record { refusal = number; rows = rows; scheme = s; maximal = padded 40 l; maximals = length l }
+    record { refusal = number; rows = rows; scheme = s; maximal = padded MAXIMALS l; maximals = length l }
 
 unfoldable pub bookOf : Outcome → Book
 bookOf o = bookWith (o .number) (length (o .rows)) (o .scheme) (maximalsOf o)

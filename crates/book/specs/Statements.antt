@@ -8,7 +8,7 @@ use mathlib.Core.Logic.{_⊎_, _↔_}
 use mathlib.Core.List.{List, [], _∷_, List·Memᴰ}
 use Prim.Native.Nat.{ℕ, _+_, _^_, _≤_, _<_}
 use lib.ListN.{length}
-use Rattle.sets.specs.Sets.{_∈_, _⊆_, rank}
+use Rattle.sets.specs.Sets.{_∈_, _⊆_, rank, OBJECTS}
 use Rattle.reduction.specs.Steps.{Step, Form, NodePermits, CoverPermits, Complete, leaves}
 use Rattle.reduction.specs.Kept.{acyclic}
 use Rattle.records.specs.Reader.{readAt}
@@ -123,7 +123,7 @@ pub record NineMeans (b : List ℕ) : Type 0 where
 pub record AcceptedSay (b : List ℕ) (rs : List Record) (o : Outcome) (at : ℕ) : Type 0 where
   pub scheme : SchemeSaid rs (o .scheme)
   pub rows : RowsSaid b rs (o .rows) at
-  pub tables : (M k : ℕ) → k < 32 → k ∈ M → TableSaid rs (o .scheme) k (tableAt (tablesOf b o M) (rank M k))
+  pub tables : (M k : ℕ) → k < OBJECTS → k ∈ M → TableSaid rs (o .scheme) k (tableAt (tablesOf b o M) (rank M k))
 
 -- the row that a record says is the one that `relation` reads in its bytes and the one that a table has of it
 pub record RowInBytes (b : List ℕ) (at : ℕ) : Type 0 where
@@ -142,7 +142,7 @@ pub record SchemeWellFormed (b : List ℕ) : Type 0 where
 -- "Growing maximal objects", for the scheme of any book: an object joins by the rule, the computed sets are those that
 -- grow from its objects, and the maximal objects are those that are not removed and those declared
 pub record MaximalObjectsRead (b : List ℕ) : Type 0 where
-  pub joining : (H : ℕ) → H < 2 ^ 32 → (k : ℕ)
+  pub joining : (H : ℕ) → H < 2 ^ OBJECTS → (k : ℕ)
       → JoinsByTheRule (dependenciesOf (read b .scheme)) (read b .scheme .sets) H k
   pub growing : (start : ℕ) → start ∈ read b .scheme .objects
       → GrownInEveryOrder (dependenciesOf (read b .scheme)) (read b .scheme .sets) (read b .scheme .objects) start

@@ -7,7 +7,7 @@ use mathlib.Core.List.{List, [], _∷_, _++_, map}
 use Prim.Native.Nat.{ℕ, _≤_}
 use lib.Dec.{eqb}
 use lib.ListN.{length, getD}
-use Rattle.sets.specs.Sets.{_∈_, count, members}
+use Rattle.sets.specs.Sets.{_∈_, count, members, ATTRIBUTES, OBJECTS}
 use Rattle.values.specs.Values.{inRange}
 use Rattle.records.specs.Reader.{readAt}
 use Rattle.records.specs.declared.Record.{Record}
@@ -50,11 +50,11 @@ rowsOf b (at ∷ rows) k = rowOf k (readAt b at) ++ rowsOf b rows k
 
 unfoldable pub tablesOf : List ℕ → Outcome → ℕ → List Table
 tablesOf b o M =
-    map (λ k. record { set = getD (o .scheme .sets) k 0; rows = rowsOf b (o .rows) k }) (members 32 M)
+    map (λ k. record { set = getD (o .scheme .sets) k 0; rows = rowsOf b (o .rows) k }) (members OBJECTS M)
 
 -- ---- rows in range: "A row's cells follow ascending attribute id; cells not needed are zero."
 
 pub record InRange (kinds : List ℕ) (set : ℕ) (row : Tables.Row) : Type 0 where
   pub long : length row ≡ 6
-  pub unneeded : (i : ℕ) → count 32 set ≤ i → getD row i 0 ≡ 0
+  pub unneeded : (i : ℕ) → count ATTRIBUTES set ≤ i → getD row i 0 ≡ 0
   pub needed : (a : ℕ) → a ∈ set → inRange (getD kinds a 0) (cellOf set row a) ≡ true

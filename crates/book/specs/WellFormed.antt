@@ -5,7 +5,7 @@ use mathlib.Core.Path.{_≡_}
 use mathlib.Core.List.{List·Memᴰ}
 use Prim.Native.Nat.{ℕ, _^_, _≤_, _<_}
 use lib.ListN.{length, getD}
-use Rattle.sets.specs.Sets.{_∈_, _∉_, _⊆_, count}
+use Rattle.sets.specs.Sets.{_∈_, _∉_, _⊆_, count, ATTRIBUTES, OBJECTS}
 use Rattle.values.specs.Table.{TableRules}
 use Rattle.scheme.specs.declared.Scheme.{Scheme}
 use Rattle.scheme.specs.declared.MaximalRecords.{MaximalRecords}
@@ -21,7 +21,7 @@ pub record SomeAttributes (attributes s : ℕ) : Type 0 where
 -- "An object has one to six attributes", all declared
 pub record ObjectSet (attributes s : ℕ) : Type 0 where
   pub some : SomeAttributes attributes s
-  pub six : count 32 s ≤ 6
+  pub six : count ATTRIBUTES s ≤ 6
 
 -- the arrays are whole, and their counts are within "64 dependencies; 8 records of kind 5 and 8 of kind 6"
 pub record MaximalArrays (m : MaximalRecords) : Type 0 where
@@ -31,8 +31,8 @@ pub record MaximalArrays (m : MaximalRecords) : Type 0 where
   pub removals : m .removals ≤ 8
 
 pub record Arrays (s : Scheme) : Type 0 where
-  pub kinds : length (s .kinds) ≡ 32
-  pub sets : length (s .sets) ≡ 32
+  pub kinds : length (s .kinds) ≡ ATTRIBUTES
+  pub sets : length (s .sets) ≡ OBJECTS
   pub left : length (s .left) ≡ 64
   pub right : length (s .right) ≡ 64
   pub dependencies : s .dependencies ≤ 64
@@ -40,9 +40,9 @@ pub record Arrays (s : Scheme) : Type 0 where
 
 pub record WellFormed (s : Scheme) : Type 0 where
   pub arrays : Arrays s
-  -- attributes and objects are 0 to 31
-  pub attributesBelow : s .attributes < 2 ^ 32
-  pub objectsBelow : s .objects < 2 ^ 32
+  -- attributes are below ATTRIBUTES, objects below OBJECTS
+  pub attributesBelow : s .attributes < 2 ^ ATTRIBUTES
+  pub objectsBelow : s .objects < 2 ^ OBJECTS
   -- value kinds are 0 to 3
   pub kindsBelow : (a : ℕ) → getD (s .kinds) a 0 < 4
   -- the comparison table keeps the rules of one

@@ -3,7 +3,7 @@ ghost use mathlib.Core.Path.{_≡_};
 ghost use mathlib.Core.List.{[]};
 ghost use Prim.Native.Nat.{_<_, _≤_};
 ghost use lib.ListN.{length, drop};
-ghost use Rattle.sets.specs.Sets.{count};
+ghost use Rattle.sets.specs.Sets.{count, ATTRIBUTES, OBJECTS};
 ghost use Rattle.scheme.specs.OfScheme.{maximalOf};
 ghost use Rattle.records.specs.Checks.{firstOf};
 ghost use Rattle.records.specs.Records.{ofBook, masksOf};
@@ -17,6 +17,7 @@ ghost use Rattle.book.specs.Reading.{read, bookWith, bookOf, stored};
 use records::BookRecord;
 use records::Reading;
 use records::Record;
+use scheme::MAXIMALS;
 use scheme::MaximalRecords;
 use scheme::Scheme;
 use scheme::TableOfMasks;
@@ -45,8 +46,8 @@ fn some_nonzero(cells: [u32; 6], from: usize) -> bool
 // Whether some attribute of the set has a cell outside the range of its kind. The attributes of the set below one are
 // counted to find its cell.
 fn some_outside(kinds: [u8; KINDS], set: AttributeSet, cells: [u32; 6]) -> bool
-    requires { ⌜ count 32 set ≤ 6 ⌝ }
-    ensures { λ r. ⌜ r ≡ someOutside kinds set cells 32 ⌝ }
+    requires { ⌜ count ATTRIBUTES set ≤ 6 ⌝ }
+    ensures { λ r. ⌜ r ≡ someOutside kinds set cells ATTRIBUTES ⌝ }
 {
     let mut a: usize = 0;
     while a < KINDS {
@@ -63,7 +64,7 @@ fn some_outside(kinds: [u8; KINDS], set: AttributeSet, cells: [u32; 6]) -> bool
 
 // Whether a row of an object with this set has a non-zero cell that is not needed or one outside its range.
 fn wrong_cells(kinds: [u8; KINDS], set: AttributeSet, cells: [u32; 6]) -> bool
-    requires { ⌜ count 32 set ≤ 6 ⌝ }
+    requires { ⌜ count ATTRIBUTES set ≤ 6 ⌝ }
     ensures { λ r. ⌜ r ≡ wrongCells kinds set cells ⌝ }
 {
     if some_nonzero(cells, sets::count(set) as usize) {
@@ -76,7 +77,7 @@ fn wrong_cells(kinds: [u8; KINDS], set: AttributeSet, cells: [u32; 6]) -> bool
 fn attribute_fault(s: Scheme, id: u8, kind: u8) -> u8
     ensures { λ r. ⌜ r ≡ faultOf s (Record.OfBook (BookRecord.Attribute id kind)) ⌝ }
 {
-    if id > 31 {
+    if id as u32 >= ATTRIBUTES {
         return 5;
     }
     if kind > 3 {
@@ -91,7 +92,7 @@ fn attribute_fault(s: Scheme, id: u8, kind: u8) -> u8
 fn object_fault(s: Scheme, number: u8, set: AttributeSet) -> u8
     ensures { λ r. ⌜ r ≡ faultOf s (Record.OfBook (BookRecord.Object number set)) ⌝ }
 {
-    if number > 31 {
+    if number as u32 >= OBJECTS {
         return 5;
     }
     if sets::is_empty(set) {
@@ -100,7 +101,7 @@ fn object_fault(s: Scheme, number: u8, set: AttributeSet) -> u8
     if sets::count(set) > 6 {
         return 5;
     }
-    if sets::has(s.objects, numbers::wide(number)) {
+    if sets::has_object(s.objects, numbers::wide(number)) {
         return 6;
     }
     if !sets::within(set, s.attributes) {
@@ -134,10 +135,10 @@ fn row_fault(s: Scheme, object: u8, cells: [u32; 6]) -> u8
     requires { ⌜ SixAtMost s ⌝ }
     ensures { λ r. ⌜ r ≡ firstOf (rowChecks s object cells) ⌝ }
 {
-    if object > 31 {
+    if object as u32 >= OBJECTS {
         return 5;
     }
-    if !sets::has(s.objects, numbers::wide(object)) {
+    if !sets::has_object(s.objects, numbers::wide(object)) {
         return 7;
     }
     let k = object as usize;
@@ -155,10 +156,10 @@ fn maximal_fault(s: Scheme, n: usize, set: ObjectSet) -> u8
     if n >= 8 {
         return 4;
     }
-    if sets::is_empty(set) {
+    if sets::no_objects(set) {
         return 5;
     }
-    if !sets::within(set, s.objects) {
+    if !sets::objects_within(set, s.objects) {
         return 7;
     }
     0
@@ -224,9 +225,9 @@ fn nothing_declared() -> Scheme
 {
     let masks = values::built_in();
     let maximal = MaximalRecords {
-        declared: [0u32; 8],
+        declared: [0; 8],
         declarations: 0,
-        removed: [0u32; 8],
+        removed: [0; 8],
         removals: 0,
         only: false,
     };
@@ -246,7 +247,7 @@ fn nothing_declared() -> Scheme
 
 // What kinds 1, 2, 3, 5, 6, 13 and 14 add to a scheme.
 fn with_attribute(mut s: Scheme, id: u8, kind: u8) -> Scheme
-    requires { ⌜ id < 32 ⌝ }
+    requires { ⌜ id < ATTRIBUTES ⌝ }
     ensures { λ r. ⌜ r ≡ withAttribute s id kind ⌝ }
 {
     let i = id as usize;
@@ -256,12 +257,12 @@ fn with_attribute(mut s: Scheme, id: u8, kind: u8) -> Scheme
 }
 
 fn with_object(mut s: Scheme, number: u8, set: AttributeSet) -> Scheme
-    requires { ⌜ number < 32 ⌝ }
+    requires { ⌜ number < OBJECTS ⌝ }
     ensures { λ r. ⌜ r ≡ withObject s number set ⌝ }
 {
     let i = number as usize;
     s.sets[i] = set;
-    s.objects = sets::insert(s.objects, numbers::wide(number));
+    s.objects = sets::insert_object(s.objects, numbers::wide(number));
     s
 }
 
@@ -435,7 +436,7 @@ pub struct Book {
     pub refusal: u8,
     pub rows: usize,
     pub scheme: Scheme,
-    pub maximal: [ObjectSet; 40],
+    pub maximal: [ObjectSet; MAXIMALS],
     pub maximals: usize,
 }
 
@@ -447,7 +448,7 @@ fn stopped(refusal: u8, rows: usize, scheme: Scheme) -> Book
         refusal,
         rows,
         scheme,
-        maximal: [0u32; 40],
+        maximal: [0; MAXIMALS],
         maximals: 0,
     }
 }

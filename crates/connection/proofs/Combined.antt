@@ -4,7 +4,7 @@
 use mathlib.Core.Path.{_≡_, refl, sym, _∙_}
 use mathlib.Core.List.{List, [], map, List·Memᴰ}
 use Prim.Native.Nat.{ℕ}
-use Rattle.sets.specs.Sets.{_⊆_, members}
+use Rattle.sets.specs.Sets.{_⊆_, members, ATTRIBUTES}
 use Rattle.reduction.specs.Statements.{OfAttributes}
 use Rattle.records.specs.declared.Record.{Record}
 use Rattle.relation.specs.Tables.{Row}
@@ -35,7 +35,7 @@ module _ (b : List ℕ) (o : Outcome) (bounded : (M : ℕ) → OfAttributes (fam
     contains : X ⊆ attributesOf (o .scheme .sets) (p .object)
     picked : Picked (shownTables b o (p .object) X) (p .rows)
     matching : Matching (o .scheme .kinds) (shownTables b o (p .object) X) (p .rows)
-    shows : row ≡ map (together (shownTables b o (p .object) X) (p .rows)) (members 32 X)
+    shows : row ≡ map (together (shownTables b o (p .object) X) (p .rows)) (members ATTRIBUTES X)
 
   connection-combines : {X : ℕ} {row : Row} → InConnection b o X row → (p : Pick) × Combines X row p
   connection-combines {X} c =
@@ -100,7 +100,7 @@ module _ (b : List ℕ) (o : Outcome) (bounded : (M : ℕ) → OfAttributes (fam
     pub combined-answer : {row : Row} → Given row → InAnswer b o rs row
     unfolding combined
     combined-answer (p, passes, e) =
-        let picks : ℕ → Row = λ v. map (combined b o rs p v) (members 32 (attributesNamed rs v)) in
+        let picks : ℕ → Row = λ v. map (combined b o rs p v) (members ATTRIBUTES (attributesNamed rs v)) in
         let s : AgreeOnNames rs (cellsOf rs picks) (combined b o rs p) = shown-agree range (λ v a n. refl) in
         record {
           picks = picks;

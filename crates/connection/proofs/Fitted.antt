@@ -6,7 +6,7 @@ use mathlib.Core.Path.{_≡_, refl, sym, ap, _∙_, subst}
 use mathlib.Core.List.{List, map, Memᴰ·map}
 use Prim.Native.Nat.{ℕ, _<_}
 use lib.ListN.{getD}
-use Rattle.sets.specs.Sets.{_∈_, _⊆_, members}
+use Rattle.sets.specs.Sets.{_∈_, _⊆_, members, ATTRIBUTES, OBJECTS}
 use Rattle.sets.proofs.Bits.{member-lt}
 use Rattle.reduction.specs.Steps.{Family}
 use Rattle.reduction.specs.Kept.{union, kept}
@@ -37,10 +37,11 @@ use Rattle.connection.proofs.Named.{AgreeOnNames, items-agree, true-agr
 module _ (b : List ℕ) (o : Outcome) (bounded : (M : ℕ) → OfAttributes (familyOf (o .scheme .sets) M)) where
   -- ---- cells that fit the tables shown
 
-  -- attributes are below 32
-  attribute-lt : {M c a : ℕ} → c < 32 → c ∈ M → a ∈ getD (o .scheme .sets) c 0 → a < 32
+  -- attributes are below ATTRIBUTES
+  attribute-lt : {M c a : ℕ} → c < OBJECTS → c ∈ M → a ∈ getD (o .scheme .sets) c 0 → a < ATTRIBUTES
   attribute-lt {M} {c} h i j =
-      member-lt 32 (bounded M .bounded (getD (o .scheme .sets) c 0) (object-in-family (o .scheme .sets) M h i)) j
+      member-lt ATTRIBUTES (bounded M .bounded (getD (o .scheme .sets) c 0)
+      (object-in-family (o .scheme .sets) M h i)) j
 
   module _ {M : ℕ} {ρ : ℕ → ℕ} where
     row-fits-on : {K B : ℕ} → RowFits b o M K ρ → FitsOn B ρ (shownOn b o M K)
@@ -51,7 +52,7 @@ module _ (b : List ℕ) (o : Outcome) (bounded : (M : ℕ) → OfAttributes (fam
           row = projected S K (r .row);
           there = row-of-object b o M (r .shown) (project-has K (tableOf b o (r .object)) (r .there));
           cells = λ a i _.
-              let h : a < 32 = attribute-lt (r .shown .below) (r .shown .there) (r .shown .contains .each i) in
+              let h : a < ATTRIBUTES = attribute-lt (r .shown .below) (r .shown .there) (r .shown .contains .each i) in
               cell-projected S (r .row) h i ∙ r .cells a h i;
         }
 
@@ -110,7 +111,7 @@ module _ (b : List ℕ) (o : Outcome) (bounded : (M : ℕ) → OfAttributes (fam
   pub record ShowsFitting (M X : ℕ) (row : Row) : Type 0 where
     pub cells : ℕ → ℕ
     pub fits : FitsObject b o M X cells
-    pub shows : row ≡ map cells (members 32 X)
+    pub shows : row ≡ map cells (members ATTRIBUTES X)
 
   module _ {M X : ℕ} {row : Row} (i : X ⊆ attributesOf (o .scheme .sets) M) where
     pub part-fits : InPart b o M X row → ShowsFitting M X row
@@ -118,7 +119,7 @@ module _ (b : List ℕ) (o : Outcome) (bounded : (M : ℕ) → OfAttributes (fam
         let s = join-assigned (wanted-shown M X i) (p .joined) in
         record { cells = s .assigns; fits = shown-fits-object (s .allFit) (s .stated); shows = s .shows }
 
-    pub fits-part : {ρ : ℕ → ℕ} → FitsObject b o M X ρ → row ≡ map ρ (members 32 X) → InPart b o M X row
+    pub fits-part : {ρ : ℕ → ℕ} → FitsObject b o M X ρ → row ≡ map ρ (members ATTRIBUTES X) → InPart b o M X row
     fits-part {ρ} f e = record {
       joined =
           assigned-join (wanted-shown M X i) (record {
@@ -134,7 +135,7 @@ module _ (b : List ℕ) (o : Outcome) (bounded : (M : ℕ) → OfAttributes (fam
   -- a row shows on X the cells ρ, and they fit it
   pub record ShowsCells (X : ℕ) (row : Row) (ρ : ℕ → ℕ) : Type 0 where
     pub fits : FitsVariable b o X ρ
-    pub shows : row ≡ map ρ (members 32 X)
+    pub shows : row ≡ map ρ (members ATTRIBUTES X)
 
   pub connection-cells : {X : ℕ} {row : Row} → InConnection b o X row → (ρ : ℕ → ℕ) × ShowsCells X row ρ
   connection-cells c =
@@ -173,7 +174,7 @@ module _ (b : List ℕ) (o : Outcome) (bounded : (M : ℕ) → OfAttributes (fam
 
     pub fits-query-answer : {row : Row} → FitsQuery b o rs row → InAnswer b o rs row
     fits-query-answer f =
-        let picks : ℕ → Row = λ v. map (f .at v) (members 32 (attributesNamed rs v)) in
+        let picks : ℕ → Row = λ v. map (f .at v) (members ATTRIBUTES (attributesNamed rs v)) in
         let s : AgreeOnNames rs (cellsOf rs picks) (f .at) = shown-agree range (λ v a n. refl) in
         record {
           picks = picks;

@@ -7,7 +7,7 @@ use mathlib.Core.Bool.{true, false}
 use mathlib.Core.Logic.{_⊎_, inl, inr, ⊎-elim}
 use mathlib.Core.List.{List, [], _∷_, map, List·Memᴰ, List·Memᴰ·head, List·Memᴰ·tail, List·Memᴰ·not-nil}
 use Prim.Native.Nat.{ℕ}
-use Rattle.sets.specs.Sets.{isEmpty, members}
+use Rattle.sets.specs.Sets.{isEmpty, members, ATTRIBUTES}
 use Rattle.sets.proofs.Tests.{yes-or-no, yes-no}
 use Rattle.sets.proofs.Sets.{isEmpty-no, no-isEmpty}
 use Rattle.values.specs.Operators.{holds}
@@ -105,7 +105,7 @@ module _ {rs : List Record} {f g : Cells} (s : AgreeOnNames rs f g) where
 
 -- rows that show cells at names have these cells there
 pub shown-agree : {rs : List Record} {picks : ℕ → Row} {at : Cells} → NamesInRange rs
-    → ((v a : ℕ) → NamedIn rs v a → picks v ≡ map (at v) (members 32 (attributesNamed rs v)))
+    → ((v a : ℕ) → NamedIn rs v a → picks v ≡ map (at v) (members ATTRIBUTES (attributesNamed rs v)))
     → AgreeOnNames rs (cellsOf rs picks) at
 unfolding cellsOf
 shown-agree {rs} {at = at} range h = record {

@@ -6,7 +6,7 @@ use mathlib.Core.Bool.{true}
 use mathlib.Core.List.{List, List·Memᴰ, Memᴰ·of-map}
 use Prim.Native.Nat.{ℕ, _<_, _^_}
 use lib.ListN.{getD}
-use Rattle.sets.specs.Sets.{_∈_}
+use Rattle.sets.specs.Sets.{_∈_, ATTRIBUTES, OBJECTS}
 use Rattle.values.specs.Values.{inRange}
 use Rattle.values.proofs.Values.{inRange-lt}
 use Rattle.reduction.specs.Statements.{OfAttributes}
@@ -31,12 +31,12 @@ module _ (b : List ℕ) where
   abbrev Ranged : ℕ → ℕ → Type 0
   Ranged a cell = inRange (getD (read b .scheme .kinds) a 0) cell ≡ true
 
-  cell-ranged : {M c a : ℕ} {row : Row} → c < 32 → c ∈ M → List·Memᴰ row (rowsOf b (read b .rows) c)
+  cell-ranged : {M c a : ℕ} {row : Row} → c < OBJECTS → c ∈ M → List·Memᴰ row (rowsOf b (read b .rows) c)
       → a ∈ getD (read b .scheme .sets) c 0 → Ranged a (cellOf (getD (read b .scheme .sets) c 0) row a)
   cell-ranged {M} {c} {a} {row} h i r j =
       tables-of-book b M .rowsInRange (tableOf b (read b) c) (table-there b (read b) M h i) row r .needed a j
 
-  pub cell-lt : {M c a : ℕ} {row : Row} → c < 32 → c ∈ M → List·Memᴰ row (rowsOf b (read b .rows) c)
+  pub cell-lt : {M c a : ℕ} {row : Row} → c < OBJECTS → c ∈ M → List·Memᴰ row (rowsOf b (read b .rows) c)
       → a ∈ getD (read b .scheme .sets) c 0 → cellOf (getD (read b .scheme .sets) c 0) row a < 2 ^ 32
   cell-lt {M} {c} {a} {row} h i r j =
       inRange-lt (getD (read b .scheme .kinds) a 0) (cellOf (getD (read b .scheme .sets) c 0) row a)
@@ -63,28 +63,28 @@ module _ (b : List ℕ) where
         let p = Memᴰ·of-map (λ (T : Table). T .set) Us (s .there) in
         shown-held (p .1) (subst (λ (S : ℕ). a ∈ S) (sym (p .2)) (s .held))
 
-    held-ranged : {M X a : ℕ} {ρ : ℕ → ℕ} → FitsObject b (read b) M X ρ → a < 32 → HeldBy M X a → Ranged a (ρ a)
+    held-ranged : {M X a : ℕ} {ρ : ℕ → ℕ} → FitsObject b (read b) M X ρ → a < ATTRIBUTES → HeldBy M X a → Ranged a (ρ a)
     held-ranged {M} {X} {a} f h q =
         let r = f .each (q .set) (q .isKept) in
         subst (Ranged a) (r .cells a h (q .held))
         (cell-ranged {M = M} (r .shown .below) (r .shown .there) (r .there) (r .shown .contains .each (q .held)))
 
-    fitting-ranged : {X a : ℕ} {ρ : ℕ → ℕ} → FitsVariable b (read b) X ρ → a < 32 → a ∈ X → Ranged a (ρ a)
+    fitting-ranged : {X a : ℕ} {ρ : ℕ → ℕ} → FitsVariable b (read b) X ρ → a < ATTRIBUTES → a ∈ X → Ranged a (ρ a)
     fitting-ranged f h i = held-ranged (f .fits) h (fitting-held f i)
 
-    pub fitting-lt : {X a : ℕ} {ρ : ℕ → ℕ} → FitsVariable b (read b) X ρ → a < 32 → a ∈ X → ρ a < 2 ^ 32
+    pub fitting-lt : {X a : ℕ} {ρ : ℕ → ℕ} → FitsVariable b (read b) X ρ → a < ATTRIBUTES → a ∈ X → ρ a < 2 ^ 32
     fitting-lt {a = a} {ρ = ρ} f h i = inRange-lt (getD (read b .scheme .kinds) a 0) (ρ a) (fitting-ranged f h i)
 
     -- ---- rows of the connection
 
-    pub connection-cell-ranged : {X a : ℕ} {row : Row} → InConnection b (read b) X row → a < 32 → a ∈ X
+    pub connection-cell-ranged : {X a : ℕ} {row : Row} → InConnection b (read b) X row → a < ATTRIBUTES → a ∈ X
         → Ranged a (cellOf X row a)
     connection-cell-ranged {X} {a} c h i =
         let (ρ, s) = connection-cells b (read b) bounded c in
         subst (Ranged a) (sym (ap (λ (r : Row). cellOf X r a) (s .shows) ∙ cell-of-map ρ h i))
         (fitting-ranged (s .fits) h i)
 
-    pub connection-cell-lt : {X a : ℕ} {row : Row} → InConnection b (read b) X row → a < 32 → a ∈ X
+    pub connection-cell-lt : {X a : ℕ} {row : Row} → InConnection b (read b) X row → a < ATTRIBUTES → a ∈ X
         → cellOf X row a < 2 ^ 32
     connection-cell-lt {X} {a} {row} c h i =
         inRange-lt (getD (read b .scheme .kinds) a 0) (cellOf X row a) (connection-cell-ranged c h i)

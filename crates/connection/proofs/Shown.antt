@@ -9,7 +9,7 @@ use Prim.Native.Nat.{ℕ, _<_}
 use native.Mathlib.Nat.{lt-trans}
 use native.Mathlib.Omega.{arith}
 use lib.ListN.{length}
-use Rattle.sets.specs.Sets.{_∈_, _⊆_, members}
+use Rattle.sets.specs.Sets.{_∈_, _⊆_, members, OBJECTS}
 use Rattle.sets.proofs.Members.{members-only, members-has}
 use Rattle.reduction.specs.Steps.{Family, at}
 use Rattle.reduction.specs.Kept.{cutTo, left, kept}
@@ -30,15 +30,15 @@ use Rattle.connection.specs.Fitting.{tableOf}
 -- ---- the tables of the objects
 
 module _ (b : List ℕ) (o : Outcome) (M : ℕ) where
-  pub table-there : {c : ℕ} → c < 32 → c ∈ M → List·Memᴰ (tableOf b o c) (tablesOf b o M)
+  pub table-there : {c : ℕ} → c < OBJECTS → c ∈ M → List·Memᴰ (tableOf b o c) (tablesOf b o M)
   unfolding tablesOf
-  table-there h i = Memᴰ·map (tableOf b o) (members-has 32 h i)
+  table-there h i = Memᴰ·map (tableOf b o) (members-has OBJECTS h i)
 
-  of-tables : {T : Table} → List·Memᴰ T (tablesOf b o M) → (c : ℕ) × (c < 32) × (c ∈ M) × (T ≡ tableOf b o c)
+  of-tables : {T : Table} → List·Memᴰ T (tablesOf b o M) → (c : ℕ) × (c < OBJECTS) × (c ∈ M) × (T ≡ tableOf b o c)
   unfolding tablesOf
   of-tables m =
-      let p = Memᴰ·of-map (tableOf b o) (members 32 M) m in
-      let q = members-only 32 M (p .1) in
+      let p = Memᴰ·of-map (tableOf b o) (members OBJECTS M) m in
+      let q = members-only OBJECTS M (p .1) in
       (p .0, q .0, q .1, sym (p .2))
 
   -- ---- the rows that objects show on a set

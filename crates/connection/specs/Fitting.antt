@@ -7,7 +7,7 @@ use mathlib.Core.Bool.{true, false}
 use mathlib.Core.List.{List, List·Memᴰ}
 use Prim.Native.Nat.{ℕ, _<_}
 use lib.ListN.{getD}
-use Rattle.sets.specs.Sets.{_∈_, _⊆_}
+use Rattle.sets.specs.Sets.{_∈_, _⊆_, ATTRIBUTES}
 use Rattle.values.specs.Values.{missing}
 use Rattle.records.specs.declared.Record.{Record}
 use Rattle.relation.specs.Tables.{Row, cellOf, Table}
@@ -33,13 +33,13 @@ pub record RowFits (b : List ℕ) (o : Outcome) (M K : ℕ) (at : ℕ → ℕ) :
   pub shown : Shows (o .scheme .sets) M K object
   pub row : Row
   pub there : List·Memᴰ row (rowsOf b (o .rows) object)
-  pub cells : (a : ℕ) → a < 32 → a ∈ K → cellOf (getD (o .scheme .sets) object 0) row a ≡ at a
+  pub cells : (a : ℕ) → a < ATTRIBUTES → a ∈ K → cellOf (getD (o .scheme .sets) object 0) row a ≡ at a
 
 pub record FitsObject (b : List ℕ) (o : Outcome) (M X : ℕ) (at : ℕ → ℕ) : Type 0 where
   pub each : (K : ℕ) → List·Memᴰ K (keptFor (o .scheme .sets) M X) → RowFits b o M K at
   -- "in a join a missing cell matches nothing" (request 5): none stands under an attribute of two kept sets
   pub stated : (a K L : ℕ) → List·Memᴰ K (keptFor (o .scheme .sets) M X)
-      → List·Memᴰ L (keptFor (o .scheme .sets) M X) → (K ≡ L → ⊥) → a < 32 → a ∈ K → a ∈ L
+      → List·Memᴰ L (keptFor (o .scheme .sets) M X) → (K ≡ L → ⊥) → a < ATTRIBUTES → a ∈ K → a ∈ L
       → missing (getD (o .scheme .kinds) a 0) (at a) ≡ false
 
 -- ---- cells that fit a query: for each variable named a maximal object that contains its attributes

@@ -11,7 +11,7 @@ use native.Mathlib.Omega.{arith}
 use borrow.Author.Tests.{eqb-true, ltb-false, leb-false}
 use lib.Dec.{eqb, ltb, leb}
 use lib.ListN.{length, getD, set, length-append}
-use Rattle.sets.specs.Sets.{insert}
+use Rattle.sets.specs.Sets.{insert, ATTRIBUTES}
 use Rattle.sets.proofs.Tests.{yes-no, no-or}
 use Rattle.records.specs.Records.{kinds, whose, ofBook, kindOf}
 use Rattle.records.proofs.Records.{of-book-kind}
@@ -42,19 +42,19 @@ same-fault s items comparisons e f = ap (λ (r : QueryRecord). faultOf s items c
 pub record NewName (before bound v a : ℕ) : Type 0 where
   pub room : before < bound
   pub variable : v < 4
-  pub attribute : a < 32
+  pub attribute : a < ATTRIBUTES
 
 module _ (s : Scheme) (items comparisons : ℕ) where
   pub item-accepted : (v a : ℕ) → faultOf s items comparisons (OfQuery (Item v a)) ≡ 0 → NewName items 8 v a
   unfolding faultOf checks
   item-accepted v a e =
       let room = none-first (leb 8 items) 4 _ (λ z. omega arith) e in
-      let range = none-first (ltb 3 v || ltb 31 a) 5 _ (λ z. omega arith) (room .1) in
-      let small = no-or (ltb 3 v) (ltb 31 a) (range .0) in
+      let range = none-first (ltb 3 v || leb ATTRIBUTES a) 5 _ (λ z. omega arith) (room .1) in
+      let small = no-or (ltb 3 v) (leb ATTRIBUTES a) (range .0) in
       record {
         room = leb-false 8 items (room .0);
         variable = omega (arith, ltb-false 3 v (small .0));
-        attribute = omega (arith, ltb-false 31 a (small .1));
+        attribute = omega (arith, leb-false ATTRIBUTES a (small .1));
       }
 
   pub two-accepted : (v a operator v2 a2 : ℕ) → faultOf s items comparisons (OfQuery (CompareTwo v a operator v2 a2))
@@ -63,21 +63,23 @@ module _ (s : Scheme) (items comparisons : ℕ) where
   unfolding faultOf checks
   two-accepted v a operator v2 a2 e =
       let room = none-first (leb 16 comparisons) 4 _ (λ z. omega arith) e in
-      let range = none-first (ltb 3 v || (ltb 31 a || (ltb 5 operator || (ltb 3 v2 || ltb 31 a2)))) 5 _ (λ z. omega
+      let range = none-first (ltb 3 v
+      || (leb ATTRIBUTES a || (ltb 5 operator || (ltb 3 v2 || leb ATTRIBUTES a2)))) 5 _ (λ z. omega
       arith) (room .1) in
-      let first = no-or (ltb 3 v) (ltb 31 a || (ltb 5 operator || (ltb 3 v2 || ltb 31 a2))) (range .0) in
-      let second = no-or (ltb 31 a) (ltb 5 operator || (ltb 3 v2 || ltb 31 a2)) (first .1) in
-      let third = no-or (ltb 5 operator) (ltb 3 v2 || ltb 31 a2) (second .1) in
-      let fourth = no-or (ltb 3 v2) (ltb 31 a2) (third .1) in (
+      let first = no-or (ltb 3 v) (leb ATTRIBUTES a || (ltb 5 operator || (ltb 3 v2 || leb ATTRIBUTES a2)))
+      (range .0) in
+      let second = no-or (leb ATTRIBUTES a) (ltb 5 operator || (ltb 3 v2 || leb ATTRIBUTES a2)) (first .1) in
+      let third = no-or (ltb 5 operator) (ltb 3 v2 || leb ATTRIBUTES a2) (second .1) in
+      let fourth = no-or (ltb 3 v2) (leb ATTRIBUTES a2) (third .1) in (
         record {
           room = leb-false 16 comparisons (room .0);
           variable = omega (arith, ltb-false 3 v (first .0));
-          attribute = omega (arith, ltb-false 31 a (second .0));
+          attribute = omega (arith, leb-false ATTRIBUTES a (second .0));
         },
         record {
           room = leb-false 16 comparisons (room .0);
           variable = omega (arith, ltb-false 3 v2 (fourth .0));
-          attribute = omega (arith, ltb-false 31 a2 (fourth .1));
+          attribute = omega (arith, leb-false ATTRIBUTES a2 (fourth .1));
         },
       )
 
@@ -87,13 +89,13 @@ module _ (s : Scheme) (items comparisons : ℕ) where
   unfolding faultOf checks
   constant-accepted v a operator cell e =
       let room = none-first (leb 16 comparisons) 4 _ (λ z. omega arith) e in
-      let range = none-first (ltb 3 v || (ltb 31 a || ltb 5 operator)) 5 _ (λ z. omega arith) (room .1) in
-      let first = no-or (ltb 3 v) (ltb 31 a || ltb 5 operator) (range .0) in
-      let second = no-or (ltb 31 a) (ltb 5 operator) (first .1) in
+      let range = none-first (ltb 3 v || (leb ATTRIBUTES a || ltb 5 operator)) 5 _ (λ z. omega arith) (room .1) in
+      let first = no-or (ltb 3 v) (leb ATTRIBUTES a || ltb 5 operator) (range .0) in
+      let second = no-or (leb ATTRIBUTES a) (ltb 5 operator) (first .1) in
       record {
         room = leb-false 16 comparisons (room .0);
         variable = omega (arith, ltb-false 3 v (first .0));
-        attribute = omega (arith, ltb-false 31 a (second .0));
+        attribute = omega (arith, leb-false ATTRIBUTES a (second .0));
       }
 
 -- ---- lists of records with one more
@@ -299,18 +301,18 @@ module _ (s : Scheme) (items comparisons : ℕ) {r : QueryRecord} (f : faultOf s
   pub item-room : (v a : ℕ) → r ≡ Item v a → items < 8
   item-room v a e = item-accepted s items comparisons v a (same-fault s items comparisons e f) .room
 
-  pub item-named : (v a : ℕ) → r ≡ Item v a → (v < 4) × (a < 32)
+  pub item-named : (v a : ℕ) → r ≡ Item v a → (v < 4) × (a < ATTRIBUTES)
   item-named v a e =
       let n = item-accepted s items comparisons v a (same-fault s items comparisons e f) in (n .variable, n .attribute)
 
   pub two-fits : (v a operator v2 a2 : ℕ) → r ≡ CompareTwo v a operator v2 a2
-      → (comparisons < 16) × ((v < 4) × (a < 32)) × ((v2 < 4) × (a2 < 32))
+      → (comparisons < 16) × ((v < 4) × (a < ATTRIBUTES)) × ((v2 < 4) × (a2 < ATTRIBUTES))
   two-fits v a operator v2 a2 e =
       let n = two-accepted s items comparisons v a operator v2 a2 (same-fault s items comparisons e f) in
       (n .0 .room, (n .0 .variable, n .0 .attribute), (n .1 .variable, n .1 .attribute))
 
   pub constant-fits : (v a operator cell : ℕ) → r ≡ CompareConstant v a operator cell
-      → (comparisons < 16) × (v < 4) × (a < 32)
+      → (comparisons < 16) × (v < 4) × (a < ATTRIBUTES)
   constant-fits v a operator cell e =
       let n = constant-accepted s items comparisons v a operator cell (same-fault s items comparisons e f) in
       (n .room, n .variable, n .attribute)

@@ -7,8 +7,8 @@ use mathlib.Core.Bool.{Bool, true, false, not, _||_}
 use mathlib.Core.List.{List, [], _∷_}
 use Prim.Native.Nat.{ℕ, _≤_, _<_}
 use borrow.Author.Tests.{lt-ltb, le-ltb, le-leb, lt-leb}
-use lib.Dec.{ltb}
-use Rattle.sets.specs.Sets.{has}
+use lib.Dec.{ltb, leb}
+use Rattle.sets.specs.Sets.{has, ATTRIBUTES}
 use Rattle.sets.proofs.Tests.{or-left, or-right, or-no}
 use Rattle.values.specs.Values.{missing, inRange}
 use Rattle.values.specs.Table.{allows}
@@ -27,26 +27,26 @@ module _ (s : Scheme) (items comparisons v a : ℕ) where
   item-over h = first-yes _ (le-leb 8 items h)
 
   module _ (room : items < 8) where
-    item-past : {n : ℕ} → n ≡ firstOf ((ltb 3 v || ltb 31 a, 5) ∷ (not (has (s .attributes) a), 7) ∷ [])
+    item-past : {n : ℕ} → n ≡ firstOf ((ltb 3 v || leb ATTRIBUTES a, 5) ∷ (not (has (s .attributes) a), 7) ∷ [])
         → n ≡ faultOf s items comparisons (OfQuery (Item v a))
     unfolding faultOf checks
     item-past e = first-no _ _ (lt-leb 8 items room) e
 
     pub item-variable : 3 < v → 5 ≡ faultOf s items comparisons (OfQuery (Item v a))
-    item-variable h = item-past (first-yes _ (or-left (ltb 31 a) (lt-ltb 3 v h)))
+    item-variable h = item-past (first-yes _ (or-left (leb ATTRIBUTES a) (lt-ltb 3 v h)))
 
-    pub item-attribute : 31 < a → 5 ≡ faultOf s items comparisons (OfQuery (Item v a))
-    item-attribute h = item-past (first-yes _ (or-right (ltb 3 v) (lt-ltb 31 a h)))
+    pub item-attribute : ATTRIBUTES ≤ a → 5 ≡ faultOf s items comparisons (OfQuery (Item v a))
+    item-attribute h = item-past (first-yes _ (or-right (ltb 3 v) (le-leb ATTRIBUTES a h)))
 
-    module _ (hv : v ≤ 3) (ha : a ≤ 31) {r : Bool} {w : ℕ} (e : r ≡ has (s .attributes) w) (q : w ≡ a) where
+    module _ (hv : v ≤ 3) (ha : a < ATTRIBUTES) {r : Bool} {w : ℕ} (e : r ≡ has (s .attributes) w) (q : w ≡ a) where
       pub item-undeclared : not r ≡ true → 7 ≡ faultOf s items comparisons (OfQuery (Item v a))
       item-undeclared y =
-          item-past (first-no _ _ (or-no (le-ltb 3 v hv) (le-ltb 31 a ha))
+          item-past (first-no _ _ (or-no (le-ltb 3 v hv) (lt-leb ATTRIBUTES a ha))
           (first-yes _ (tested-absent (s .attributes) e q y)))
 
       pub item-right : not r ≡ false → 0 ≡ faultOf s items comparisons (OfQuery (Item v a))
       item-right n =
-          item-past (first-no _ _ (or-no (le-ltb 3 v hv) (le-ltb 31 a ha))
+          item-past (first-no _ _ (or-no (le-ltb 3 v hv) (lt-leb ATTRIBUTES a ha))
           (first-no _ _ (tested-absent (s .attributes) e q n) first-none))
 
 -- ---- comparisons of two
@@ -64,7 +64,7 @@ module _ (s : Scheme) (items comparisons v a operator v2 a2 : ℕ) where
       ∷ []
 
   abbrev outsideTwo : Bool
-  outsideTwo = ltb 3 v || (ltb 31 a || (ltb 5 operator || (ltb 3 v2 || ltb 31 a2)))
+  outsideTwo = ltb 3 v || (leb ATTRIBUTES a || (ltb 5 operator || (ltb 3 v2 || leb ATTRIBUTES a2)))
 
   module _ (room : comparisons < 16) where
     two-past : {n : ℕ} → n ≡ firstOf ((outsideTwo, 5) ∷ twoRest)
@@ -75,28 +75,29 @@ module _ (s : Scheme) (items comparisons v a operator v2 a2 : ℕ) where
     pub two-variable : 3 < v → 5 ≡ faultOf s items comparisons (OfQuery (CompareTwo v a operator v2 a2))
     two-variable h = two-past (first-yes _ (or-left _ (lt-ltb 3 v h)))
 
-    pub two-attribute : 31 < a → 5 ≡ faultOf s items comparisons (OfQuery (CompareTwo v a operator v2 a2))
-    two-attribute h = two-past (first-yes _ (or-right (ltb 3 v) (or-left _ (lt-ltb 31 a h))))
+    pub two-attribute : ATTRIBUTES ≤ a → 5 ≡ faultOf s items comparisons (OfQuery (CompareTwo v a operator v2 a2))
+    two-attribute h = two-past (first-yes _ (or-right (ltb 3 v) (or-left _ (le-leb ATTRIBUTES a h))))
 
     pub two-operator : 5 < operator → 5 ≡ faultOf s items comparisons (OfQuery (CompareTwo v a operator v2 a2))
-    two-operator h = two-past (first-yes _ (or-right (ltb 3 v) (or-right (ltb 31 a) (or-left _ (lt-ltb 5 operator h)))))
+    two-operator h =
+        two-past (first-yes _ (or-right (ltb 3 v) (or-right (leb ATTRIBUTES a) (or-left _ (lt-ltb 5 operator h)))))
 
     pub two-variable2 : 3 < v2 → 5 ≡ faultOf s items comparisons (OfQuery (CompareTwo v a operator v2 a2))
     two-variable2 h =
-        two-past (first-yes _ (or-right (ltb 3 v) (or-right (ltb 31 a) (or-right (ltb 5 operator)
+        two-past (first-yes _ (or-right (ltb 3 v) (or-right (leb ATTRIBUTES a) (or-right (ltb 5 operator)
         (or-left _ (lt-ltb 3 v2 h))))))
 
-    pub two-attribute2 : 31 < a2 → 5 ≡ faultOf s items comparisons (OfQuery (CompareTwo v a operator v2 a2))
+    pub two-attribute2 : ATTRIBUTES ≤ a2 → 5 ≡ faultOf s items comparisons (OfQuery (CompareTwo v a operator v2 a2))
     two-attribute2 h =
-        two-past (first-yes _ (or-right (ltb 3 v) (or-right (ltb 31 a) (or-right (ltb 5 operator)
-        (or-right (ltb 3 v2) (lt-ltb 31 a2 h))))))
+        two-past (first-yes _ (or-right (ltb 3 v) (or-right (leb ATTRIBUTES a) (or-right (ltb 5 operator)
+        (or-right (ltb 3 v2) (le-leb ATTRIBUTES a2 h))))))
 
-    module _ (hv : v ≤ 3) (ha : a ≤ 31) (ho : operator ≤ 5) (hv2 : v2 ≤ 3) (ha2 : a2 ≤ 31) where
+    module _ (hv : v ≤ 3) (ha : a < ATTRIBUTES) (ho : operator ≤ 5) (hv2 : v2 ≤ 3) (ha2 : a2 < ATTRIBUTES) where
       two-inside : {n : ℕ} → n ≡ firstOf twoRest → n
           ≡ faultOf s items comparisons (OfQuery (CompareTwo v a operator v2 a2))
       two-inside e =
-          two-past (first-no _ _ (or-no (le-ltb 3 v hv) (or-no (le-ltb 31 a ha) (or-no (le-ltb 5 operator ho)
-          (or-no (le-ltb 3 v2 hv2) (le-ltb 31 a2 ha2))))) e)
+          two-past (first-no _ _ (or-no (le-ltb 3 v hv) (or-no (lt-leb ATTRIBUTES a ha) (or-no (le-ltb 5 operator ho)
+          (or-no (le-ltb 3 v2 hv2) (lt-leb ATTRIBUTES a2 ha2))))) e)
 
       module _ {r : Bool} {w : ℕ} (e : r ≡ has (s .attributes) w) (q : w ≡ a) where
         pub two-undeclared : not r ≡ true → 7 ≡ faultOf s items comparisons (OfQuery (CompareTwo v a operator v2 a2))
@@ -140,7 +141,7 @@ module _ (s : Scheme) (items comparisons v a operator cell : ℕ) where
       ∷ []
 
   module _ (room : comparisons < 16) where
-    constant-past : {n : ℕ} → n ≡ firstOf ((ltb 3 v || (ltb 31 a || ltb 5 operator), 5) ∷ constantRest)
+    constant-past : {n : ℕ} → n ≡ firstOf ((ltb 3 v || (leb ATTRIBUTES a || ltb 5 operator), 5) ∷ constantRest)
         → n ≡ faultOf s items comparisons (OfQuery (CompareConstant v a operator cell))
     unfolding faultOf checks
     constant-past e = first-no _ _ (lt-leb 16 comparisons room) e
@@ -148,18 +149,19 @@ module _ (s : Scheme) (items comparisons v a operator cell : ℕ) where
     pub constant-variable : 3 < v → 5 ≡ faultOf s items comparisons (OfQuery (CompareConstant v a operator cell))
     constant-variable h = constant-past (first-yes _ (or-left _ (lt-ltb 3 v h)))
 
-    pub constant-attribute : 31 < a → 5 ≡ faultOf s items comparisons (OfQuery (CompareConstant v a operator cell))
-    constant-attribute h = constant-past (first-yes _ (or-right (ltb 3 v) (or-left _ (lt-ltb 31 a h))))
+    pub constant-attribute : ATTRIBUTES ≤ a → 5 ≡ faultOf s items comparisons (OfQuery (CompareConstant v a operator cell))
+    constant-attribute h = constant-past (first-yes _ (or-right (ltb 3 v) (or-left _ (le-leb ATTRIBUTES a h))))
 
     pub constant-operator : 5 < operator → 5 ≡ faultOf s items comparisons (OfQuery (CompareConstant v a operator cell))
-    constant-operator h = constant-past (first-yes _ (or-right (ltb 3 v) (or-right (ltb 31 a) (lt-ltb 5 operator h))))
+    constant-operator h =
+        constant-past (first-yes _ (or-right (ltb 3 v) (or-right (leb ATTRIBUTES a) (lt-ltb 5 operator h))))
 
-    module _ (hv : v ≤ 3) (ha : a ≤ 31) (ho : operator ≤ 5) {r : Bool} {w : ℕ} (e : r ≡ has (s .attributes) w)
+    module _ (hv : v ≤ 3) (ha : a < ATTRIBUTES) (ho : operator ≤ 5) {r : Bool} {w : ℕ} (e : r ≡ has (s .attributes) w)
         (q : w ≡ a) where
       constant-inside : {n : ℕ} → n ≡ firstOf constantRest
           → n ≡ faultOf s items comparisons (OfQuery (CompareConstant v a operator cell))
       constant-inside d =
-          constant-past (first-no _ _ (or-no (le-ltb 3 v hv) (or-no (le-ltb 31 a ha) (le-ltb 5 operator ho))) d)
+          constant-past (first-no _ _ (or-no (le-ltb 3 v hv) (or-no (lt-leb ATTRIBUTES a ha) (le-ltb 5 operator ho))) d)
 
       pub constant-undeclared : not r ≡ true → 7
           ≡ faultOf s items comparisons (OfQuery (CompareConstant v a operator cell))

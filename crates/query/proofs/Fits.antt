@@ -10,6 +10,7 @@ use mathlib.Core.List.{List·Memᴰ·not-nil, List·Memᴰ·append-cases, List·
 use Prim.Native.Nat.{ℕ, _+_, _≤_, _<_}
 use native.Mathlib.Omega.{arith}
 use lib.ListN.{length, length-append}
+use Rattle.sets.specs.Sets.{ATTRIBUTES}
 use Rattle.sets.proofs.Tests.{yes-no}
 use Rattle.records.specs.Checks.{firstOf}
 use Rattle.records.specs.Walking as Walking
@@ -30,7 +31,7 @@ use Rattle.query.specs.Accepting.{Names, item, left, right, ofConstant, 
 -- a name of a query: "variables 0 to 3", attributes 0 to 31
 pub record NameInRange (v a : ℕ) : Type 0 where
   pub variable : v < 4
-  pub attribute : a < 32
+  pub attribute : a < ATTRIBUTES
 
 -- a record without a fault, behind so many items and comparisons
 record Fitting (items comparisons : ℕ) (r : Record) : Type 0 where

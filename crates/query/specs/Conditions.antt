@@ -6,7 +6,7 @@ use mathlib.Core.Bool.{true, false}
 use mathlib.Core.Logic.{_⊎_}
 use mathlib.Core.List.{List, [], _∷_}
 use Prim.Native.Nat.{ℕ, _≤_, _<_}
-use Rattle.sets.specs.Sets.{_∉_}
+use Rattle.sets.specs.Sets.{_∉_, ATTRIBUTES}
 use Rattle.values.specs.Values.{missing, inRange}
 use Rattle.values.specs.Table.{allows}
 use Rattle.records.specs.Checks.{Condition, _gives_}
@@ -24,18 +24,18 @@ unfoldable pub conditions : Scheme → ℕ → ℕ → Record → List Condition
 conditions s items comparisons (OfBook r) = (Unit {0} gives 2) ∷ []
 conditions s items comparisons (OfQuery (Item v a)) =
     (8 ≤ items gives 4)
-    ∷ ((3 < v) ⊎ (31 < a) gives 5)
+    ∷ ((3 < v) ⊎ (ATTRIBUTES ≤ a) gives 5)
     ∷ (a ∉ s .attributes gives 7)
     ∷ []
 conditions s items comparisons (OfQuery (CompareTwo v a operator v2 a2)) =
     (16 ≤ comparisons gives 4)
-    ∷ ((3 < v) ⊎ ((31 < a) ⊎ ((5 < operator) ⊎ ((3 < v2) ⊎ (31 < a2)))) gives 5)
+    ∷ ((3 < v) ⊎ ((ATTRIBUTES ≤ a) ⊎ ((5 < operator) ⊎ ((3 < v2) ⊎ (ATTRIBUTES ≤ a2)))) gives 5)
     ∷ ((a ∉ s .attributes) ⊎ (a2 ∉ s .attributes) gives 7)
     ∷ (allows (s .table .masks) operator (kindIn s a) (kindIn s a2) ≡ false gives 11)
     ∷ []
 conditions s items comparisons (OfQuery (CompareConstant v a operator cell)) =
     (16 ≤ comparisons gives 4)
-    ∷ ((3 < v) ⊎ ((31 < a) ⊎ (5 < operator)) gives 5)
+    ∷ ((3 < v) ⊎ ((ATTRIBUTES ≤ a) ⊎ (5 < operator)) gives 5)
     ∷ (a ∉ s .attributes gives 7)
     ∷ (allows (s .table .masks) operator (kindIn s a) (kindIn s a) ≡ false gives 11)
     ∷ (inRange (kindIn s a) cell ≡ false gives 5)

@@ -7,7 +7,7 @@ use mathlib.Core.List.{List, [], _∷_}
 use Prim.Native.Nat.{ℕ}
 use lib.Dec.{ltb, leb}
 use lib.ListN.{getD}
-use Rattle.sets.specs.Sets.{has}
+use Rattle.sets.specs.Sets.{has, ATTRIBUTES}
 use Rattle.values.specs.Values.{missing, inRange}
 use Rattle.values.specs.Table.{allows}
 use Rattle.records.specs.Checks.{firstOf}
@@ -27,18 +27,18 @@ unfoldable pub checks : Scheme → ℕ → ℕ → Record → List (Bool × ℕ)
 checks s items comparisons (OfBook r) = (true, 2) ∷ []
 checks s items comparisons (OfQuery (Item v a)) =
     (leb 8 items, 4)
-    ∷ (ltb 3 v || ltb 31 a, 5)
+    ∷ (ltb 3 v || leb ATTRIBUTES a, 5)
     ∷ (not (has (s .attributes) a), 7)
     ∷ []
 checks s items comparisons (OfQuery (CompareTwo v a operator v2 a2)) =
     (leb 16 comparisons, 4)
-    ∷ (ltb 3 v || (ltb 31 a || (ltb 5 operator || (ltb 3 v2 || ltb 31 a2))), 5)
+    ∷ (ltb 3 v || (leb ATTRIBUTES a || (ltb 5 operator || (ltb 3 v2 || leb ATTRIBUTES a2))), 5)
     ∷ (not (has (s .attributes) a) || not (has (s .attributes) a2), 7)
     ∷ (not (allows (s .table .masks) operator (kindIn s a) (kindIn s a2)), 11)
     ∷ []
 checks s items comparisons (OfQuery (CompareConstant v a operator cell)) =
     (leb 16 comparisons, 4)
-    ∷ (ltb 3 v || (ltb 31 a || ltb 5 operator), 5)
+    ∷ (ltb 3 v || (leb ATTRIBUTES a || ltb 5 operator), 5)
     ∷ (not (has (s .attributes) a), 7)
     ∷ (not (allows (s .table .masks) operator (kindIn s a) (kindIn s a)), 11)
     ∷ (not (inRange (kindIn s a) cell), 5)

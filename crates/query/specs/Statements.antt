@@ -8,7 +8,7 @@ use mathlib.Core.Logic.{_⊎_, _↔_}
 use mathlib.Core.List.{List, [], _∷_, _++_, List·Memᴰ}
 use Prim.Native.Nat.{ℕ, _≤_, _<_}
 use lib.ListN.{length, getD, take}
-use Rattle.sets.specs.Sets.{_∈_}
+use Rattle.sets.specs.Sets.{_∈_, ATTRIBUTES}
 use Rattle.records.specs.Checks.{First}
 use Rattle.records.specs.Gathered.{Gathered}
 use Rattle.records.specs.Reader.{readAt}
@@ -76,7 +76,7 @@ pub record AcceptedFits (s : Scheme) (b : List ℕ) : Type 0 where
   -- also with kind 10 behind them
   pub ends : (rs : List Record) (at : ℕ) → Accepted s b rs at → AskedWhole (rs ++ OfQuery End ∷ [])
   -- "variables 0 to 3"; "attribute, id 0..31"
-  pub named : (rs : List Record) (at v a : ℕ) → Accepted s b rs at → NamedIn rs v a → (v < 4) × (a < 32)
+  pub named : (rs : List Record) (at v a : ℕ) → Accepted s b rs at → NamedIn rs v a → (v < 4) × (a < ATTRIBUTES)
 
 -- ---- the number
 

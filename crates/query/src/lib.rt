@@ -4,6 +4,7 @@ ghost use Prim.Native.Nat.{_<_, _≤_};
 ghost use lib.ListN.{length};
 ghost use mathlib.Core.Bool.{not};
 ghost use Rattle.numbers.specs.Numbers.{isNil};
+ghost use Rattle.sets.specs.Sets.{ATTRIBUTES, OBJECTS};
 ghost use Rattle.records.specs.Records.{ofQuery};
 ghost use Rattle.records.specs.Walking.{shortNumber};
 ghost use Rattle.query.specs.Asking.{nothingAsked, withName, withItem, withComparison, withRecord};
@@ -14,6 +15,7 @@ use records::QueryRecord;
 use records::Reading;
 use records::Record;
 use scheme::Scheme;
+use sets::ATTRIBUTES;
 use sets::AttributeSet;
 use sets::ObjectSet;
 
@@ -62,7 +64,7 @@ fn item_fault(s: Scheme, retrieved: usize, compared: usize, variable: u8, attrib
     if variable > 3 {
         return 5;
     }
-    if attribute > 31 {
+    if attribute as u32 >= ATTRIBUTES {
         return 5;
     }
     if !sets::has(s.attributes, numbers::wide(attribute)) {
@@ -89,7 +91,7 @@ fn two_fault(
     if variable > 3 {
         return 5;
     }
-    if attribute > 31 {
+    if attribute as u32 >= ATTRIBUTES {
         return 5;
     }
     if operator > 5 {
@@ -98,7 +100,7 @@ fn two_fault(
     if variable2 > 3 {
         return 5;
     }
-    if attribute2 > 31 {
+    if attribute2 as u32 >= ATTRIBUTES {
         return 5;
     }
     if !sets::has(s.attributes, numbers::wide(attribute)) {
@@ -133,7 +135,7 @@ fn constant_fault(
     if variable > 3 {
         return 5;
     }
-    if attribute > 31 {
+    if attribute as u32 >= ATTRIBUTES {
         return 5;
     }
     if operator > 5 {
@@ -231,7 +233,7 @@ fn nothing_asked() -> Asked
 
 // An attribute more that is named with a variable.
 fn with_name(mut q: Asked, variable: u8, attribute: u8) -> Asked
-    requires { ⌜ (variable < 4) × (attribute < 32) ⌝ }
+    requires { ⌜ (variable < 4) × (attribute < ATTRIBUTES) ⌝ }
     ensures { λ r. ⌜ r ≡ withName q variable attribute ⌝ }
 {
     let v = variable as usize;
@@ -269,7 +271,8 @@ fn with_two(
     variable2: u8,
     attribute2: u8,
 ) -> Asked
-    requires { ⌜ (q .compared < 16) × ((variable < 4) × (attribute < 32)) × ((variable2 < 4) × (attribute2 < 32)) ⌝ }
+    requires { ⌜ (q .compared < 16) × ((variable < 4) × (attribute < ATTRIBUTES))
+        × ((variable2 < 4) × (attribute2 < ATTRIBUTES)) ⌝ }
     ensures { λ r. ⌜ r ≡ withRecord q (Record.OfQuery (QueryRecord.CompareTwo variable attribute operator variable2 attribute2)) ⌝ }
 {
     let c = Comparison {
@@ -289,7 +292,7 @@ fn with_two(
 }
 
 fn with_constant(q: Asked, variable: u8, attribute: u8, operator: u8, cell: u32) -> Asked
-    requires { ⌜ (q .compared < 16) × (variable < 4) × (attribute < 32) ⌝ }
+    requires { ⌜ (q .compared < 16) × (variable < 4) × (attribute < ATTRIBUTES) ⌝ }
     ensures { λ r. ⌜ r ≡ withRecord q (Record.OfQuery (QueryRecord.CompareConstant variable attribute operator cell)) ⌝ }
 {
     let c = Comparison {
@@ -416,7 +419,7 @@ fn walk(bytes: &[u8], s: Scheme) -> Walked
 
 // Whether no maximal object of the list contains x.
 fn none_contains<'a>(sets: &'a [AttributeSet], maximal: &'a [ObjectSet], x: AttributeSet) -> bool
-    requires { ⌜ 32 ≤ length (now sets) ⌝ }
+    requires { ⌜ OBJECTS ≤ length (now sets) ⌝ }
     ensures { λ r. ⌜ r ≡ isNil (containing (now (sets .entry)) (now (maximal .entry)) x) ⌝ }
 {
     let mut i: usize = 0;
@@ -435,7 +438,7 @@ fn some_unconnected<'a>(
     maximal: &'a [ObjectSet],
     attributes: [AttributeSet; 4],
 ) -> bool
-    requires { ⌜ 32 ≤ length (now sets) ⌝ }
+    requires { ⌜ OBJECTS ≤ length (now sets) ⌝ }
     ensures { λ r. ⌜ r ≡ someUnconnected (now (sets .entry)) (now (maximal .entry)) attributes ⌝ }
 {
     let mut v: usize = 0;

@@ -6,7 +6,7 @@ use mathlib.Core.Path.{_≡_, refl, sym, _∙_, subst}
 use mathlib.Core.Logic.{inl, inr, ⊎-elim}
 use mathlib.Core.List.{List, [], _∷_, List·Memᴰ, Memᴰ·cast, cons≢nil}
 use Prim.Native.Nat.{ℕ, _^_, _<_}
-use Rattle.sets.specs.Sets.{_∈_, _∉_, _∩_}
+use Rattle.sets.specs.Sets.{_∈_, _∉_, _∩_, ATTRIBUTES}
 use Rattle.sets.proofs.Numbers.{eq-or-ne}
 use Rattle.sets.proofs.Bits.{in-out, not-in, member-lt}
 use Rattle.sets.proofs.Sets.{∩-in, ∩-left, ∩-right, zero-out, some-member}
@@ -32,14 +32,14 @@ module _ {K : ℕ} {T U : Table} (both : (a : ℕ) → a ∈ K → (a ∈ T .set
       Memᴰ·cast (p .shows ∙ same) (project-has K U (s .there))
 
 -- where both show the same rows on what they share, U shows each row of T
-rows-shown : {K : ℕ} {T U : Table} → ((a : ℕ) → a ∈ T .set → a ∈ U .set → a ∈ K) → T .set < 2 ^ 32
+rows-shown : {K : ℕ} {T U : Table} → ((a : ℕ) → a ∈ T .set → a ∈ U .set → a ∈ K) → T .set < 2 ^ ATTRIBUTES
     → SameRows (project K T) (project K U) → ShowsEach U T
 rows-shown shared bound same r m =
     let s = same-cells same m in
     record {
       row = s .other;
       there = s .there;
-      cells = λ a i j. s .cells a (member-lt 32 bound i) (shared a i j);
+      cells = λ a i j. s .cells a (member-lt ATTRIBUTES bound i) (shared a i j);
     }
 
 -- ---- tables that share none
@@ -76,7 +76,7 @@ module _ (T U : Table) where
       let (f, g) = empty-if-other T U b in
       record { firstInSecond = shows-with T U z g; secondInFirst = shows-with U T z f }
 
-  shared-some : T .set < 2 ^ 32 → U .set < 2 ^ 32 → SameRows (project shared T) (project shared U)
+  shared-some : T .set < 2 ^ ATTRIBUTES → U .set < 2 ^ ATTRIBUTES → SameRows (project shared T) (project shared U)
       → ShowsEach U T × ShowsEach T U
   shared-some t u s = (rows-shown (λ a i j. ∩-in i j) t s, rows-shown (λ a i j. ∩-in j i) u (same-back s))
 

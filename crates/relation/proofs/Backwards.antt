@@ -10,7 +10,7 @@ use mathlib.Core.List.{List, List·Memᴰ, Memᴰ·map, Memᴰ·of-map}
 use Prim.Native.Nat.{ℕ}
 use lib.Dec.{eqb}
 use borrow.Author.Tests.{eq-eqb, ne-eqb}
-use Rattle.sets.specs.Sets.{_∈_, _∉_, _∩_, remove}
+use Rattle.sets.specs.Sets.{_∈_, _∉_, _∩_, remove, ATTRIBUTES}
 use Rattle.sets.proofs.Numbers.{eq-or-ne}
 use Rattle.sets.proofs.Bits.{in-out, member-or-not, member-lt}
 use Rattle.sets.proofs.Sets.{∩-in, ∩-left, remove-in}
@@ -89,7 +89,7 @@ module _ {Ts : List Table} (o : OfAttributes (family Ts)) (agree : AgreePairwise
         cells : (b : ℕ) → b ∈ T .set → b ∈ A → cellOf (T .set) (s .other) b ≡ changed ρ a cell b
         cells b j l =
             let w : b ∈ holder .table .set = holder .widest T m t b j l in
-            s .cells b (member-lt 32 (set-lt o m) j) (∩-in w j)
+            s .cells b (member-lt ATTRIBUTES (set-lt o m) j) (∩-in w j)
             ∙ ⊎-elim (λ e. ap (cellOf (holder .table .set) (holderFits .row)) e ∙ sym (changed-here ρ a cell e))
             (λ n. holderFits .cells b w (remove-in l n) ∙ sym (changed-else ρ a cell n))
             (eq-or-ne b a)

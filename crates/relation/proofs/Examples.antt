@@ -12,7 +12,7 @@ use Prim.Native.Nat.{ℕ, _^_, _<_}
 use native.Mathlib.Omega.{arith}
 use lib.Dec.{lit<}
 use lib.ListN.{getD}
-use Rattle.sets.specs.Sets.{_∈_, _⊆_, bit, has, within, _∩_, _∪_, single, isEmpty, rank, members}
+use Rattle.sets.specs.Sets.{_∈_, _⊆_, bit, has, within, _∩_, _∪_, single, isEmpty, rank, members, ATTRIBUTES}
 use Rattle.sets.proofs.Sets.{∩-in, in-single, yes-within}
 use Rattle.values.specs.Values.{missing, matches}
 use Rattle.reduction.specs.Steps.{at}
@@ -195,10 +195,10 @@ shared-of-two {S} {U} {a} w =
     second = omega (arith, w .before, w .there)
 
 -- two sets of attributes
-two-bounded : {S U : ℕ} → S < 2 ^ 32 → U < 2 ^ 32 → OfAttributes (S ∷ U ∷ [])
+two-bounded : {S U : ℕ} → S < 2 ^ ATTRIBUTES → U < 2 ^ ATTRIBUTES → OfAttributes (S ∷ U ∷ [])
 two-bounded {S} {U} p q = record { bounded = low }
   where
-    low : (s : ℕ) → List·Memᴰ s (S ∷ U ∷ []) → s < 2 ^ 32
+    low : (s : ℕ) → List·Memᴰ s (S ∷ U ∷ []) → s < 2 ^ ATTRIBUTES
     low s (List·Memᴰ·head e) = omega (arith, e, p)
     low s (List·Memᴰ·tail (List·Memᴰ·head e)) = omega (arith, e, q)
     low s (List·Memᴰ·tail (List·Memᴰ·tail m)) = absurd (List·Memᴰ·not-nil m)

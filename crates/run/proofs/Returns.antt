@@ -11,6 +11,7 @@ use native.Mathlib.Omega.{arith}
 use borrow.Author.Tests.{eq-eqb, ne-eqb, lt-ltb, le-ltb, eqb-true, eqb-false}
 use lib.Dec.{eqb, ltb}
 use lib.ListN.{length, getD, take, drop}
+use Rattle.sets.specs.Sets.{ATTRIBUTES}
 use Rattle.sets.proofs.Tests.{yes-or-no}
 use Rattle.book.specs.declared.Book.{Book}
 use Rattle.book.specs.Reading.{read, bookOf}
@@ -110,7 +111,7 @@ module _ (b : List ℕ) {book : Book} (e : book ≡ bookOf (read b)) (z : read b
   good-query y = query-number b e good-here q m w ∙ y
 
   pub asked-good : queryRead (read b) q .number ≡ 0
-      → InRange (query .asked) × (32 ≤ length (book .scheme .kinds)) × Known (book .scheme .kinds)
+      → InRange (query .asked) × (ATTRIBUTES ≤ length (book .scheme .kinds)) × Known (book .scheme .kinds)
   asked-good y = asked-ready b e good-here q m w (good-query y)
 
   kinds-are : {t : Terms} → query .refusal ≡ 0 → TermsOf (book .scheme .kinds) (query .asked) t

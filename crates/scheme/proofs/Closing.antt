@@ -8,7 +8,7 @@ use mathlib.Core.List.{List, [], _∷_, List·Memᴰ, List·Memᴰ·head, List·
 use Prim.Native.Nat.{ℕ, _^_, _<_}
 use native.Mathlib.Nat.{lt-of-le-of-lt}
 use native.Mathlib.Omega.{arith}
-use Rattle.sets.specs.Sets.{_⊆_, within, _∪_}
+use Rattle.sets.specs.Sets.{_⊆_, within, _∪_, ATTRIBUTES}
 use Rattle.sets.proofs.Sets.{⊆-refl, ⊆-trans, ext, ∪-⊆, ⊆-∪-left, ⊆-∪-right, within-yes, yes-within, ⊆-le, ∪-lt}
 use Rattle.scheme.specs.Dependencies.{Dependency, Closed, LeastClosed, pass, passes, closure}
 use Rattle.scheme.specs.Statements.{DeterminesAttributes}
@@ -30,11 +30,11 @@ after-⊇ d A = by (within (d .left) A)
     by true = ⊆-∪-left A (d .right)
     by false = ⊆-refl A
 
-after-lt : (d : Dependency) {A : ℕ} → d .right < 2 ^ 32 → A < 2 ^ 32 → after d A < 2 ^ 32
+after-lt : (d : Dependency) {A : ℕ} → d .right < 2 ^ ATTRIBUTES → A < 2 ^ ATTRIBUTES → after d A < 2 ^ ATTRIBUTES
 after-lt d {A} r h = by (within (d .left) A)
   where
-    by : (b : Bool) → following b d A < 2 ^ 32
-    by true = ∪-lt 32 h r
+    by : (b : Bool) → following b d A < 2 ^ ATTRIBUTES
+    by true = ∪-lt ATTRIBUTES h r
     by false = h
 
 after-⊆ : (d : Dependency) {A S : ℕ} → A ⊆ S → (d .left ⊆ S → d .right ⊆ S) → after d A ⊆ S
@@ -63,7 +63,7 @@ unfolding pass
 pass-⊇ [] A = ⊆-refl A
 pass-⊇ (d ∷ D) A = ⊆-trans (after-⊇ d A) (pass-⊇ D (after d A))
 
-pass-lt : (D : List Dependency) → DeterminesAttributes D → (A : ℕ) → A < 2 ^ 32 → pass D A < 2 ^ 32
+pass-lt : (D : List Dependency) → DeterminesAttributes D → (A : ℕ) → A < 2 ^ ATTRIBUTES → pass D A < 2 ^ ATTRIBUTES
 unfolding pass
 pass-lt [] o A h = h
 pass-lt (d ∷ D) o A h =
@@ -95,23 +95,24 @@ pub passes-repeat : (D : List Dependency) → Repeats (pass D) (passes D)
 unfolding passes
 passes-repeat D = record { none = λ A. refl; more = λ n A. refl }
 
-pub pass-grows : (D : List Dependency) → Grows (pass D)
+pub pass-grows : (D : List Dependency) → Grows ATTRIBUTES (pass D)
 pass-grows D A h = pass-⊇ D A
 
 module _ (D : List Dependency) (o : DeterminesAttributes D) where
-  closure-ends : {A : ℕ} → A < 2 ^ 32 → EndsIn (passes-repeat D) A (closure D A)
+  closure-ends : {A : ℕ} → A < 2 ^ ATTRIBUTES → EndsIn (passes-repeat D) ATTRIBUTES A (closure D A)
   unfolding closure
-  closure-ends {A} h = repeats-ends (passes-repeat D) (pass-grows D) (pass-lt D o) (2 ^ 32) A h (omega arith)
+  closure-ends {A} h = repeats-ends (passes-repeat D) ATTRIBUTES (pass-grows D) (pass-lt D o) (2 ^ ATTRIBUTES) A h
+      (omega arith)
 
-  pub closure-least : {A : ℕ} → A < 2 ^ 32 → LeastClosed D A (closure D A)
+  pub closure-least : {A : ℕ} → A < 2 ^ ATTRIBUTES → LeastClosed D A (closure D A)
   unfolding closure
   closure-least {A} h = record {
     around = closure-ends h .around;
     closed = pass-fixed D (closure-ends h .fixed);
-    least = λ S i c. repeats-⊆ (passes-repeat D) (pass-⊆ D c) (2 ^ 32) A i;
+    least = λ S i c. repeats-⊆ (passes-repeat D) (pass-⊆ D c) (2 ^ ATTRIBUTES) A i;
   }
 
-  pub closure-mono : {A B : ℕ} → B < 2 ^ 32 → A ⊆ B → closure D A ⊆ closure D B
+  pub closure-mono : {A B : ℕ} → B < 2 ^ ATTRIBUTES → A ⊆ B → closure D A ⊆ closure D B
   closure-mono {A} {B} h s =
       let b = closure-least h in
       closure-least (lt-of-le-of-lt (⊆-le s) h) .least (closure D B) (⊆-trans s (b .around)) (b .closed)

@@ -5,7 +5,7 @@ use mathlib.Core.Path.{_≡_, refl}
 use mathlib.Core.Bool.{true, false}
 use mathlib.Core.List.{List, [], _∷_, map}
 use Prim.Native.Nat.{ℕ}
-use Rattle.sets.specs.Sets.{bit, has, within, _∩_, _∪_, single, isEmpty, rank, count, members}
+use Rattle.sets.specs.Sets.{bit, has, within, _∩_, _∪_, single, isEmpty, rank, count, members, OBJECTS}
 use Rattle.reduction.specs.Kept.{union, around, someHolds, removable, stays, staying, settle, left, acyclic}
 use Rattle.reduction.specs.Kept.{goesFor, goes, keeps, keptOf}
 use Rattle.scheme.specs.Dependencies.{Dependency, pass, passes, closure}
@@ -69,9 +69,9 @@ pub record Trial : Type 0 where
 unfoldable pub trials : List Trial
 trials =
     record { gives = banking (loanToBank ∷ otherDependencies) [] []; says = 15 ∷ 120 ∷ [] }
-    ∷ record { gives = map (count 32) (banking (loanToBank ∷ otherDependencies) [] []); says = 4 ∷ 4 ∷ [] }
+    ∷ record { gives = map (count OBJECTS) (banking (loanToBank ∷ otherDependencies) [] []); says = 4 ∷ 4 ∷ [] }
     ∷ record { gives = banking otherDependencies [] []; says = 15 ∷ 88 ∷ 96 ∷ [] }
-    ∷ record { gives = map (count 32) (banking otherDependencies [] []); says = 4 ∷ 3 ∷ 2 ∷ [] }
+    ∷ record { gives = map (count OBJECTS) (banking otherDependencies [] []); says = 4 ∷ 3 ∷ 2 ∷ [] }
     ∷ record { gives = banking otherDependencies (96 ∷ 127 ∷ 88 ∷ []) (88 ∷ 15 ∷ 88 ∷ []); says = 96 ∷ 127 ∷ 88 ∷ [] }
     ∷ record { gives = banking otherDependencies (127 ∷ 1 ∷ 127 ∷ 88 ∷ []) []; says = 15 ∷ 88 ∷ 96 ∷ 127 ∷ 1 ∷ [] }
     ∷ record { gives = apart; says = 1 ∷ 2 ∷ [] }

@@ -11,7 +11,7 @@ use native.Mathlib.Nat.{not-suc-le-zero, le-of-suc-le-suc, eq-or-lt-of-le, lt-tr
 use native.Mathlib.Omega.{arith}
 use lib.ListN.{getD}
 use lib.Pow.{pow-pos}
-use Rattle.sets.specs.Sets.{_∈_, _∉_, _⊆_, has, _∩_, insert, single, members}
+use Rattle.sets.specs.Sets.{_∈_, _∉_, _⊆_, has, _∩_, insert, single, members, ATTRIBUTES, OBJECTS}
 use Rattle.sets.proofs.Tests.{yes-or-no, yes-no, and-yes, yes-and, or-left, or-right, yes-or}
 use Rattle.sets.proofs.Bits.{in-out, member-or-not, member-lt, lt-of-members}
 use Rattle.sets.proofs.Sets.{has-yes, yes-has, ∪-left, ∪-cases, single-in, in-single, insert-in, ⊆-refl, ⊆-trans}
@@ -52,14 +52,14 @@ attributes-mono sets {H} {K} h = record { each = λ {k = a} i. held (in-union (f
   where
     held : {a : ℕ} → StandsIn a (familyOf sets H) → a ∈ attributesOf sets K
     held {a} s =
-        let i = of-map (λ k. getD sets k 0) (members 32 H) (s .there) in
-        let m = members-only 32 H (i .there) in
-        union-⊇ (map-in (λ k. getD sets k 0) (members-has 32 (m .0) (h .each (m .1)))) .each
+        let i = of-map (λ k. getD sets k 0) (members OBJECTS H) (s .there) in
+        let m = members-only OBJECTS H (i .there) in
+        union-⊇ (map-in (λ k. getD sets k 0) (members-has OBJECTS (m .0) (h .each (m .1)))) .each
         (subst (λ (u : ℕ). a ∈ u) (i .gives) (s .held))
 
--- an object's set has 32 bits, where each of the list has
-set-lt : (sets : List ℕ) → OfAttributes sets → (k : ℕ) → getD sets k 0 < 2 ^ 32
-set-lt [] o k = pow-pos 32
+-- an object's set is one of attributes, where each of the list is
+set-lt : (sets : List ℕ) → OfAttributes sets → (k : ℕ) → getD sets k 0 < 2 ^ ATTRIBUTES
+set-lt [] o k = pow-pos ATTRIBUTES
 set-lt (s ∷ sets) o zero = o .bounded s (List·Memᴰ·head refl)
 set-lt (s ∷ sets) o (suc k) = set-lt sets (record { bounded = λ t m. o .bounded t (List·Memᴰ·tail m) }) k
 
@@ -68,13 +68,13 @@ held-of : (sets : List ℕ) (H : ℕ) {a : ℕ} → a ∈ attributesOf sets H �
 unfolding attributesOf familyOf
 held-of sets H {a} i =
     let s = in-union (familyOf sets H) i in
-    let p = of-map (λ k. getD sets k 0) (members 32 H) (s .there) in
-    (p .of, members-only 32 H (p .there) .1, subst (λ (u : ℕ). a ∈ u) (p .gives) (s .held))
+    let p = of-map (λ k. getD sets k 0) (members OBJECTS H) (s .there) in
+    (p .of, members-only OBJECTS H (p .there) .1, subst (λ (u : ℕ). a ∈ u) (p .gives) (s .held))
 
-of-held : (sets : List ℕ) {H j a : ℕ} → H < 2 ^ 32 → j ∈ H → a ∈ getD sets j 0 → a ∈ attributesOf sets H
+of-held : (sets : List ℕ) {H j a : ℕ} → H < 2 ^ OBJECTS → j ∈ H → a ∈ getD sets j 0 → a ∈ attributesOf sets H
 unfolding attributesOf familyOf
 of-held sets {H} l i m =
-    union-⊇ (map-in (λ k. getD sets k 0) (members-has 32 (member-lt 32 l i) i)) .each m
+    union-⊇ (map-in (λ k. getD sets k 0) (members-has OBJECTS (member-lt OBJECTS l i) i)) .each m
 
 module _ (D : List Dependency) (sets : List ℕ) (objects : ℕ) where
   -- ---- one round
@@ -124,28 +124,26 @@ module _ (D : List Dependency) (sets : List ℕ) (objects : ℕ) where
       by false n ih (inl z) = absurd (yes-no e (ap (stays H) z ∙ n))
       by false n ih (inr l) = ih l
 
-  pub round-grows : Grows (round D sets objects)
+  pub round-grows : Grows OBJECTS (round D sets objects)
   round-grows H h =
       record {
         each = λ {k} i.
-            holding-in H 32 (member-lt 32 h i) (or-left (has objects k && joins D sets H k) (has-yes i));
+            holding-in H OBJECTS (member-lt OBJECTS h i) (or-left (has objects k && joins D sets H k) (has-yes i));
       }
 
-  round-lt : (H : ℕ) → H < 2 ^ 32 → round D sets objects H < 2 ^ 32
-  round-lt H h = lt-of-members (round D sets objects H) 32 (λ k i. in-holding H 32 i .0)
+  round-lt : (H : ℕ) → H < 2 ^ OBJECTS → round D sets objects H < 2 ^ OBJECTS
+  round-lt H h = lt-of-members (round D sets objects H) OBJECTS (λ k i. in-holding H OBJECTS i .0)
 
   pub rounds-repeat : Repeats (round D sets objects) (rounds D sets objects)
   unfolding rounds
   rounds-repeat = record { none = λ A. refl; more = λ n A. refl }
 
-  -- whatever the dependencies and sets are, the set grown from one of 32 objects has 32 bits
-  grown-ends : {start : ℕ} → start < 32 → EndsIn rounds-repeat (single start) (grown D sets objects start)
+  -- whatever the dependencies and sets are, the set grown from one of OBJECTS objects is a set of them
+  grown-ends : {start : ℕ} → start < OBJECTS → EndsIn rounds-repeat OBJECTS (single start) (grown D sets objects start)
   unfolding grown
   grown-ends {start} h =
-      repeats-ends rounds-repeat round-grows round-lt (2 ^ 32) (single start) (single-lt 32 h) (omega arith)
-
-  pub grown-lt : {start : ℕ} → start < 32 → grown D sets objects start < 2 ^ 32
-  grown-lt h = grown-ends h .below
+      repeats-ends rounds-repeat OBJECTS round-grows round-lt (2 ^ OBJECTS) (single start) (single-lt OBJECTS h)
+      (omega arith)
 
   -- ---- the rule
 
@@ -156,16 +154,17 @@ module _ (D : List Dependency) (sets : List ℕ) (objects : ℕ) where
     joins-mono {H} {K} h k e =
         let s : ℕ = getD sets k 0 in
         within-yes (⊆-trans (yes-within s (closure D (s ∩ attributesOf sets H)) e)
-        (closure-mono D (o .dependencies) (∩-lt (attributesOf sets K) 32 (set-lt sets (o .attributes) k))
+        (closure-mono D (o .dependencies) (∩-lt (attributesOf sets K) ATTRIBUTES (set-lt sets (o .attributes) k))
         (∩-mono s (attributes-mono sets h))))
 
     -- there is one least closed set around the attributes shared, the closure
-    pub joins-by-the-rule : {H : ℕ} → H < 2 ^ 32 → (k : ℕ) → JoinsByTheRule D sets H k
+    pub joins-by-the-rule : {H : ℕ} → H < 2 ^ OBJECTS → (k : ℕ) → JoinsByTheRule D sets H k
     unfolding joins
     joins-by-the-rule {H} h k =
         let s : ℕ = getD sets k 0 in
         let A : ℕ = s ∩ attributesOf sets H in
-        let c = closure-least D (o .dependencies) (∩-lt (attributesOf sets H) 32 (set-lt sets (o .attributes) k)) in
+        let c = closure-least D (o .dependencies) (∩-lt (attributesOf sets H) ATTRIBUTES
+        (set-lt sets (o .attributes) k)) in
         record {
           shares = A;
           isShared = λ a. (λ i. shared-of i, λ w. ∩-in (w .own) (of-held sets h (w .held) (w .theirs)));
@@ -189,27 +188,27 @@ module _ (D : List Dependency) (sets : List ℕ) (objects : ℕ) where
     round-⊆ : {S : ℕ} → NoneJoins D sets objects S → (H : ℕ) → H ⊆ S → round D sets objects H ⊆ S
     round-⊆ {S} n H h = record {
       each = λ {k} i. ⊎-elim (λ m. h .each m) (λ p. joins-inside n h k (p .0) (p .1))
-          (held-or-joins H k (in-holding H 32 i .1));
+          (held-or-joins H k (in-holding H OBJECTS i .1));
     }
 
     round-fixed : {H : ℕ} → round D sets objects H ≡ H → NoneJoins D sets objects H
     round-fixed {H} e = record {
       held = λ k i j. subst (λ (x : ℕ). k ∈ x) e
-          (holding-in H 32 (member-lt 32 (o .declared) i) (or-right (has H k) (and-yes (has-yes i) j)));
+          (holding-in H OBJECTS (member-lt OBJECTS (o .declared) i) (or-right (has H k) (and-yes (has-yes i) j)));
     }
 
     -- ---- the grown set
 
     module _ {start : ℕ} (i : start ∈ objects) where
-      start-lt : start < 32
-      start-lt = member-lt 32 (o .declared) i
+      start-lt : start < OBJECTS
+      start-lt = member-lt OBJECTS (o .declared) i
 
       pub grown-least : LeastGrown D sets objects start (grown D sets objects start)
       unfolding grown
       grown-least = record {
         holdsStart = grown-ends start-lt .around .each (single-in start);
         closed = round-fixed (grown-ends start-lt .fixed);
-        least = λ H m n. repeats-⊆ rounds-repeat (round-⊆ n) (2 ^ 32) (single start) (start-in m);
+        least = λ H m n. repeats-⊆ rounds-repeat (round-⊆ n) (2 ^ OBJECTS) (single start) (start-in m);
       }
         where
           start-in : {H : ℕ} → start ∈ H → single start ⊆ H
@@ -267,21 +266,22 @@ module _ (D : List Dependency) (sets : List ℕ) (objects : ℕ) where
         newest none (inl i) (inr m) (inl e) = inl (record { object = n; declared = i; new = m; joining = e })
         newest none (inl i) (inr m) (inr x) = inr (none-more none (λ _ e. absurd (yes-no e x)))
 
-    -- from every set of 32 bits some order leads to an end
-    some-order : (n H : ℕ) → H < 2 ^ 32 → 2 ^ 32 ≤ H + n → (G : ℕ) × Holding D sets objects H G
+    -- from every set of objects some order leads to an end
+    some-order : (n H : ℕ) → H < 2 ^ OBJECTS → 2 ^ OBJECTS ≤ H + n → (G : ℕ) × Holding D sets objects H G
     some-order zero H h enough = absurd (omega arith)
     some-order (suc n) H h enough =
         ⊎-elim (λ x. after x (λ l g. some-order n (insert H (x .object)) l (omega arith)))
-        (λ none. (H, ended (record { held = λ k i e. none k (member-lt 32 (o .declared) i) i e })))
-        (next-or-none H 32)
+        (λ none. (H, ended (record { held = λ k i e. none k (member-lt OBJECTS (o .declared) i) i e })))
+        (next-or-none H OBJECTS)
       where
         after : (x : NextHeld H)
-            → (insert H (x .object) < 2 ^ 32 → H < insert H (x .object)
+            → (insert H (x .object) < 2 ^ OBJECTS → H < insert H (x .object)
             → (G : ℕ) × Holding D sets objects (insert H (x .object)) G)
             → (G : ℕ) × Holding D sets objects H G
         after x next =
             let k : ℕ = x .object in
-            let l : insert H k < 2 ^ 32 = ∪-lt 32 h (single-lt 32 (member-lt 32 (o .declared) (x .declared))) in
+            let l : insert H k < 2 ^ OBJECTS = ∪-lt OBJECTS h
+            (single-lt OBJECTS (member-lt OBJECTS (o .declared) (x .declared))) in
             let differs : H ≡ insert H k → ⊥ =
             λ q. in-out (subst (λ (u : ℕ). k ∈ u) (sym q) (insert-in H k)) (x .new) in
             let r = next l (⊆-lt (⊆-∪-left H (single k)) differs) in
@@ -296,7 +296,7 @@ module _ (D : List Dependency) (sets : List ℕ) (objects : ℕ) where
 
       pub grown-in-every-order : GrownInEveryOrder D sets objects start
       grown-in-every-order =
-          let w = some-order (2 ^ 32) (single start) (single-lt 32 (start-lt i)) (omega arith) in
+          let w = some-order (2 ^ OBJECTS) (single start) (single-lt OBJECTS (start-lt i)) (omega arith) in
           record {
             every = λ G v. every-order v;
             some = subst (Holding D sets objects (single start)) (every-order (w .1)) (w .1);

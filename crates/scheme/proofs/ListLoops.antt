@@ -1,6 +1,6 @@
 -- What the loops over the list of maximal objects keep, and how a turn carries it on: for each loop a record of what
 -- holds at its head, with a lemma for the start, for each way through a turn and for the end.
--- In order: removals, declarations.
+-- In order: removals, declarations, maximal sets.
 -- Assumes nothing.
 use mathlib.Core.Path.{_≡_, refl, sym, ap, _∙_}
 use mathlib.Core.Bool.{Bool, true, false}
@@ -9,10 +9,14 @@ use Prim.Native.Nat.{ℕ, _+_, _≤_, _<_}
 use native.Mathlib.Numerals.{add-one-le}
 use native.Mathlib.Omega.{arith}
 use lib.ListN.{length, getD, take, drop, set, length-append, drop-of-length-le}
+use Rattle.sets.specs.Sets.{OBJECTS}
+use Rattle.reduction.specs.Kept.{keeps, keptOf, maximal}
 use Rattle.reduction.specs.Packed.{padded}
+use Rattle.reduction.proofs.Loops.{kept-more}
 use Rattle.scheme.specs.MaximalObjects.{isOne, removing, adding}
-use Rattle.scheme.specs.OfScheme.{listed, setsOf, HasRoom}
+use Rattle.scheme.specs.OfScheme.{MAXIMALS, listed, setsOf, HasRoom}
 use Rattle.scheme.specs.declared.ObjectList.{ObjectList}
+use Rattle.scheme.proofs.KeptOrder.{length-kept}
 use Rattle.scheme.proofs.Lists.{drop-at}
 use Rattle.scheme.proofs.Removals.{leaving, removing-by, adding-there, adding-new}
 use Rattle.scheme.proofs.Packing.{Listing, listing-more, listing-same, listing-take, listed-listing}
@@ -25,9 +29,9 @@ pub record RemovingSoFar (l named : List ℕ) (i count : ℕ) (out : List ℕ) :
   pub remains : List ℕ
   pub rest : remains ++ removing (drop i l) named ≡ removing l named
   pub few : length remains ≤ i
-  pub listing : Listing 40 remains count out
+  pub listing : Listing MAXIMALS remains count out
 
-pub removing-start : (l named : List ℕ) {out : List ℕ} → out ≡ padded 40 [] → RemovingSoFar l named 0 0 out
+pub removing-start : (l named : List ℕ) {out : List ℕ} → out ≡ padded MAXIMALS [] → RemovingSoFar l named 0 0 out
 removing-start l named e = record {
   inside = omega arith;
   remains = [];
@@ -36,9 +40,10 @@ removing-start l named e = record {
   listing = record { stored = e; counted = refl; fits = omega arith };
 }
 
-module _ {l named : List ℕ} {i count : ℕ} {out : List ℕ} (fits : length l ≤ 32) (v : RemovingSoFar l named i count out)
+module _ {l named : List ℕ} {i count : ℕ} {out : List ℕ} (fits : length l ≤ OBJECTS)
+    (v : RemovingSoFar l named i count out)
     (h : i < length l) where
-  pub removing-room : count < 40
+  pub removing-room : count < MAXIMALS
   removing-room = omega (arith, v .few, v .listing .counted)
 
   removing-front : (b : Bool) → isOne (getD l i 0) named ≡ b
@@ -82,8 +87,8 @@ pub record AddingSoFar (l declared : List ℕ) (i count : ℕ) (out : List ℕ) 
   pub all : List ℕ
   pub rest : adding all (drop i declared) ≡ adding l declared
   pub few : length all ≤ length l + i
-  pub listing : Listing 40 all count out
-  pub room : length l + length declared ≤ 40
+  pub listing : Listing MAXIMALS all count out
+  pub room : length l + length declared ≤ MAXIMALS
 
 pub adding-start : (p : ObjectList) (declared : List ℕ) → HasRoom p (length declared)
     → AddingSoFar (setsOf p) declared 0 (p .count) (p .sets)
@@ -102,7 +107,7 @@ adding-start p declared r =
 
 module _ {l declared : List ℕ} {i count : ℕ} {out : List ℕ} (v : AddingSoFar l declared i count out)
     (h : i < length declared) where
-  pub adding-room : count < 40
+  pub adding-room : count < MAXIMALS
   adding-room = omega (arith, v .few, v .listing .counted, v .room)
 
   -- the list that the array holds
@@ -146,3 +151,39 @@ pub adding-end : {l declared : List ℕ} {i count : ℕ} {out : List ℕ} → Ad
 unfolding adding
 adding-end {declared = declared} v h =
     listing-listed (v .listing) ∙ ap listed (ap (adding (v .all)) (sym (drop-of-length-le declared h)) ∙ v .rest)
+
+-- ---- maximal sets: the array has the kept ones of the places before i
+
+pub record KeptSoFar (l : List ℕ) (i count : ℕ) (out : List ℕ) : Type 0 where
+  pub inside : i ≤ length l
+  pub listing : Listing MAXIMALS (keptOf l i) count out
+
+pub kept-start : (l : List ℕ) {out : List ℕ} → out ≡ padded MAXIMALS [] → KeptSoFar l 0 0 out
+unfolding keptOf
+kept-start l e = record { inside = omega arith; listing = record { stored = e; counted = refl; fits = omega arith } }
+
+module _ {l : List ℕ} {i count : ℕ} {out : List ℕ} (fits : length l ≤ MAXIMALS) (v : KeptSoFar l i count out)
+    (h : i < length l) where
+  pub kept-room : count < MAXIMALS
+  kept-room = omega (arith, v .listing .counted, length-kept l i)
+
+  pub kept-one : {m : ℕ} {o : List ℕ} → true ≡ keeps l i → o ≡ set out count (getD l i 0) → m ≡ count + 1
+      → KeptSoFar l (i + 1) m o
+  kept-one y p q = record {
+    inside = add-one-le h;
+    listing =
+        listing-same (listing-more (v .listing) (getD l i 0) (omega (arith, length-kept l i)))
+        (sym (kept-more l i (getD l i 0) true refl (sym y))) q p;
+  }
+
+  pub kept-not : {m : ℕ} {o : List ℕ} → false ≡ keeps l i → o ≡ out → m ≡ count → KeptSoFar l (i + 1) m o
+  kept-not n p q = record {
+    inside = add-one-le h;
+    listing = listing-same (v .listing) (sym (kept-more l i (getD l i 0) false refl (sym n))) q p;
+  }
+
+pub kept-end : {l : List ℕ} {i count : ℕ} {out : List ℕ} → KeptSoFar l i count out → length l ≤ i
+    → _≡_ {A = ObjectList} (record { sets = out; count = count }) (listed (maximal l))
+kept-end {l} {i} v h =
+    let e : i ≡ length l = omega (arith, v .inside) in
+    listing-listed (v .listing) ∙ ap (λ (k : ℕ). listed (keptOf l k)) e

@@ -11,7 +11,7 @@ use native.Mathlib.Nat.{sub-zero}
 use native.Mathlib.Numerals.{add-one, add-one-le}
 use native.Mathlib.Omega.{arith}
 use lib.ListN.{length, getD, drop, take, set, length-map}
-use Rattle.sets.specs.Sets.{has, within, _∩_, _∪_, insert, kept, members}
+use Rattle.sets.specs.Sets.{has, within, _∩_, _∪_, insert, kept, members, OBJECTS}
 use Rattle.sets.proofs.Tests.{and-yes, or-left, or-right, or-no}
 use Rattle.sets.proofs.Sets.{∪-assoc, ∪-zero-left, ∪-zero-right}
 use Rattle.sets.proofs.Ranks.{rank-le}
@@ -26,7 +26,6 @@ use Rattle.scheme.specs.OfScheme.{pairs, Sides}
 use Rattle.scheme.proofs.Closing.{after}
 use Rattle.scheme.proofs.Lists.{drop-at}
 use Rattle.scheme.proofs.Packing.{Listing, listing-more, listing-same, listing-take, packed-listing}
-use Rattle.scheme.proofs.Packing.{listing-packed}
 
 -- ---- one pass: the dependencies from i on, from what is gathered, give what all of them give
 
@@ -87,46 +86,54 @@ members-more f s k b t =
 pub length-given : (f : ℕ → ℕ) (s k : ℕ) → length (map f (members k s)) ≤ k
 length-given f s k = omega (arith, length-map (members k s) f, length-members k s, rank-le s k)
 
-pub record MembersSoFar (f : ℕ → ℕ) (s k count : ℕ) (out : List ℕ) : Type 0 where
-  pub inside : k ≤ 32
-  pub listing : Listing 32 (map f (members k s)) count out
+-- of a set of objects, in an array of n places
+pub record MembersSoFar (n : ℕ) (f : ℕ → ℕ) (s k count : ℕ) (out : List ℕ) : Type 0 where
+  pub inside : k ≤ OBJECTS
+  pub enough : OBJECTS ≤ n
+  pub listing : Listing n (map f (members k s)) count out
 
-pub members-start : (f : ℕ → ℕ) (s : ℕ) (out : List ℕ) → out ≡ padded 32 [] → MembersSoFar f s 0 0 out
+pub members-start : (n : ℕ) (f : ℕ → ℕ) (s : ℕ) (out : List ℕ) → OBJECTS ≤ n → out ≡ padded n []
+    → MembersSoFar n f s 0 0 out
 unfolding members
-members-start f s out e =
-    record { inside = omega arith; listing = record { stored = e; counted = refl; fits = omega arith } }
+members-start n f s out l e = record {
+  inside = omega arith;
+  enough = l;
+  listing = record { stored = e; counted = refl; fits = omega arith };
+}
 
-module _ {f : ℕ → ℕ} {s k count : ℕ} {out : List ℕ} (v : MembersSoFar f s k count out) (h : k < 32) where
-  pub members-room : count < 32
+module _ {n : ℕ} {f : ℕ → ℕ} {s k count : ℕ} {out : List ℕ} (v : MembersSoFar n f s k count out) (h : k < OBJECTS) where
+  pub members-room : count < OBJECTS
   members-room = omega (arith, v .listing .counted, length-given f s k)
 
   pub members-with : {m : ℕ} {o : List ℕ} (x : ℕ) → has s k ≡ true → x ≡ f k → o ≡ set out count x → m ≡ count + 1
-      → MembersSoFar f s (k + 1) m o
+      → MembersSoFar n f s (k + 1) m o
   members-with x t e p q = record {
     inside = add-one-le h;
+    enough = v .enough;
     listing =
-        listing-same (listing-more (v .listing) x (omega (arith, length-given f s k)))
+        listing-same (listing-more (v .listing) x (omega (arith, v .enough, length-given f s k)))
         (ap (λ (y : ℕ). map f (members k s) ++ y ∷ []) e ∙ members-more f s k true t) q p;
   }
 
-  pub members-past : {m : ℕ} {o : List ℕ} → has s k ≡ false → o ≡ out → m ≡ count → MembersSoFar f s (k + 1) m o
+  pub members-past : {m : ℕ} {o : List ℕ} → has s k ≡ false → o ≡ out → m ≡ count → MembersSoFar n f s (k + 1) m o
   members-past t p q = record {
     inside = add-one-le h;
+    enough = v .enough;
     listing =
         listing-same (v .listing) (sym (append-nil (map f (members k s))) ∙ members-more f s k false t) q p;
   }
 
-pub members-end : {f : ℕ → ℕ} {s k count : ℕ} {out : List ℕ} → MembersSoFar f s k count out → 32 ≤ k
-    → _≡_ {A = SetList} (record { sets = out; count = count }) (packed (map f (members 32 s)))
-members-end {f} {s} {k} v h =
-    let e : k ≡ 32 = omega (arith, v .inside) in
-    listing-packed (listing-same (v .listing) (ap (λ (n : ℕ). map f (members n s)) e) refl refl)
+pub members-end : {n : ℕ} {f : ℕ → ℕ} {s k count : ℕ} {out : List ℕ} → MembersSoFar n f s k count out → OBJECTS ≤ k
+    → Listing n (map f (members OBJECTS s)) count out
+members-end {f = f} {s} {k} v h =
+    let e : k ≡ OBJECTS = omega (arith, v .inside) in
+    listing-same (v .listing) (ap (λ (m : ℕ). map f (members m s)) e) refl refl
 
 -- the family of an object set as the code has it
 pub family-listing : (sets : List ℕ) (H : ℕ) {p : SetList} → p ≡ packed (familyOf sets H)
-    → Listing 32 (familyOf sets H) (p .count) (p .sets)
+    → Listing OBJECTS (familyOf sets H) (p .count) (p .sets)
 unfolding familyOf
-family-listing sets H e = packed-listing e (length-given (λ j. getD sets j 0) H 32)
+family-listing sets H e = packed-listing e (length-given (λ j. getD sets j 0) H OBJECTS)
 
 pub family-whole : (sets : List ℕ) (H : ℕ) {p : SetList} {F : Family} → p ≡ packed (familyOf sets H)
     → F ≡ take (p .count) (p .sets) → F ≡ familyOf sets H
@@ -140,14 +147,14 @@ union-snoc [] s = ∪-zero-right s ∙ sym (∪-zero-left s)
 union-snoc (t ∷ F) s = ap (λ (x : ℕ). t ∪ x) (union-snoc F s) ∙ sym (∪-assoc t (union F) s)
 
 pub record AttributesSoFar (sets : List ℕ) (H k all : ℕ) : Type 0 where
-  pub inside : k ≤ 32
+  pub inside : k ≤ OBJECTS
   pub these : all ≡ union (map (λ j. getD sets j 0) (members k H))
 
 pub attributes-start : (sets : List ℕ) (H : ℕ) → AttributesSoFar sets H 0 0
 unfolding union members
 attributes-start sets H = record { inside = omega arith; these = refl }
 
-module _ {sets : List ℕ} {H k all : ℕ} (v : AttributesSoFar sets H k all) (h : k < 32) where
+module _ {sets : List ℕ} {H k all : ℕ} (v : AttributesSoFar sets H k all) (h : k < OBJECTS) where
   pub attributes-with : (r : ℕ) → has H k ≡ true → r ≡ all ∪ getD sets k 0 → AttributesSoFar sets H (k + 1) r
   attributes-with r t e = record {
     inside = add-one-le h;
@@ -166,16 +173,17 @@ module _ {sets : List ℕ} {H k all : ℕ} (v : AttributesSoFar sets H k all) (h
         ∙ members-more (λ j. getD sets j 0) H k false t);
   }
 
-pub attributes-end : {sets : List ℕ} {H k all : ℕ} → AttributesSoFar sets H k all → 32 ≤ k → all ≡ attributesOf sets H
+pub attributes-end : {sets : List ℕ} {H k all : ℕ} → AttributesSoFar sets H k all → OBJECTS ≤ k
+    → all ≡ attributesOf sets H
 unfolding attributesOf familyOf
 attributes-end {sets} {H} {k} v h =
-    let e : k ≡ 32 = omega (arith, v .inside) in
+    let e : k ≡ OBJECTS = omega (arith, v .inside) in
     v .these ∙ ap (λ (n : ℕ). union (map (λ j. getD sets j 0) (members n H))) e
 
 -- ---- one round
 
 pub record HoldingBelow (D : List Dependency) (sets : List ℕ) (objects H k next : ℕ) : Type 0 where
-  pub inside : k ≤ 32
+  pub inside : k ≤ OBJECTS
   pub these : next ≡ holding D sets objects H k
 
 pub holding-start : (D : List Dependency) (sets : List ℕ) (objects H : ℕ) → HoldingBelow D sets objects H 0 0
@@ -183,7 +191,7 @@ unfolding holding
 holding-start D sets objects H = record { inside = omega arith; these = refl }
 
 module _ {D : List Dependency} {sets : List ℕ} {objects H k next : ℕ} (v : HoldingBelow D sets objects H k next)
-    (h : k < 32) where
+    (h : k < OBJECTS) where
   -- one object more, by the test of it
   holding-more : (b : Bool) → (has H k || (has objects k && joins D sets H k)) ≡ b
       → elim b [ true ↦ insert (holding D sets objects H k) k | false ↦ holding D sets objects H k ]
@@ -226,7 +234,7 @@ module _ {D : List Dependency} {sets : List ℕ} {objects H k next : ℕ} (v : H
     holding-apart r n x e = holding-past r (ap₂ (λ (b c : Bool). b && c) declared (joins-by ∙ x)) n e
 
 pub holding-end : {D : List Dependency} {sets : List ℕ} {objects H k next : ℕ} → HoldingBelow D sets objects H k next
-    → 32 ≤ k → next ≡ round D sets objects H
+    → OBJECTS ≤ k → next ≡ round D sets objects H
 holding-end {D} {sets} {objects} {H} {k} v h =
-    let e : k ≡ 32 = omega (arith, v .inside) in
+    let e : k ≡ OBJECTS = omega (arith, v .inside) in
     v .these ∙ ap (holding D sets objects H) e

@@ -10,7 +10,7 @@ use native.Mathlib.Nat.{le-refl, not-suc-le-zero, le-of-suc-le-suc, le-of-lt, eq
 use native.Mathlib.Nat.{lt-of-lt-of-le}
 use native.Mathlib.Omega.{arith}
 use lib.ListN.{length, getD, length-map}
-use Rattle.sets.specs.Sets.{_∈_, _⊆_, rank, members}
+use Rattle.sets.specs.Sets.{_∈_, _⊆_, rank, members, OBJECTS}
 use Rattle.sets.proofs.Bits.{member-lt}
 use Rattle.sets.proofs.Sets.{⊆-refl}
 use Rattle.sets.proofs.Ranks.{rank-le, rank-lt-count}
@@ -37,49 +37,50 @@ getD-map f (x ∷ l) {i = suc i} h = getD-map f l (le-of-suc-le-suc h)
 
 module _ (D : List Dependency) (sets : List ℕ) (objects : ℕ) where
   starts : List ℕ
-  starts = members 32 objects
+  starts = members OBJECTS objects
 
   abbrev grownSets : Family
   grownSets = allGrown D sets objects
 
   length-grown : length grownSets ≡ length starts
   unfolding starts
-  length-grown = length-map (members 32 objects) (grown D sets objects)
+  length-grown = length-map (members OBJECTS objects) (grown D sets objects)
 
-  pub length-computed : length (computed D sets objects) ≤ 32
+  pub length-computed : length (computed D sets objects) ≤ OBJECTS
   unfolding computed
   length-computed =
       omega (
         arith,
         length-kept grownSets (length grownSets),
-        length-map (members 32 objects) (grown D sets objects),
-        length-members 32 objects,
-        rank-le objects 32,
+        length-map (members OBJECTS objects) (grown D sets objects),
+        length-members OBJECTS objects,
+        rank-le objects OBJECTS,
       )
 
   module _ (o : Bounded D sets objects) where
     -- the place of a start
     start-at : {p : ℕ} → p < length starts → getD starts p 0 ∈ objects
     unfolding starts
-    start-at {p} h = members-only 32 objects (mem-at (members 32 objects) p h) .1
+    start-at {p} h = members-only OBJECTS objects (mem-at (members OBJECTS objects) p h) .1
 
     grown-in : {k : ℕ} → k ∈ objects → List·Memᴰ (grown D sets objects k) grownSets
-    grown-in i = map-in (grown D sets objects) (members-has 32 (member-lt 32 (o .declared) i) i)
+    grown-in i = map-in (grown D sets objects) (members-has OBJECTS (member-lt OBJECTS (o .declared) i) i)
 
     starts-ascend : {p q : ℕ} → p < q → q < length starts → getD starts p 0 < getD starts q 0
     unfolding starts
-    starts-ascend l h = members-ascending 32 objects 0 l h
+    starts-ascend l h = members-ascending OBJECTS objects 0 l h
 
     -- a start stands at its rank, which is no lower than the first place with its set
     module _ {j : ℕ} (i : j ∈ objects) where
       rank-there : rank objects j < length starts
       unfolding starts
       rank-there =
-          subst (λ (n : ℕ). rank objects j < n) (sym (length-members 32 objects)) (rank-lt-count 32 (o .declared) i)
+          subst (λ (n : ℕ). rank objects j < n) (sym (length-members OBJECTS objects))
+          (rank-lt-count OBJECTS (o .declared) i)
 
       at-rank : getD starts (rank objects j) 0 ≡ j
       unfolding starts
-      at-rank = getD-members 32 0 (member-lt 32 (o .declared) i) i
+      at-rank = getD-members OBJECTS 0 (member-lt OBJECTS (o .declared) i) i
 
       grown-at-rank : at grownSets (rank objects j) ≡ grown D sets objects j
       unfolding starts
@@ -159,7 +160,7 @@ module _ (D : List Dependency) (sets : List ℕ) (objects : ℕ) where
     counted-once true = none-twice-nil
     counted-once false = computed-list .noneTwice
 
-    counted-few : (only : Bool) → length (counted only (computed D sets objects)) ≤ 32
+    counted-few : (only : Bool) → length (counted only (computed D sets objects)) ≤ OBJECTS
     unfolding counted
     counted-few true = omega arith
     counted-few false = length-computed

@@ -4,19 +4,16 @@
 use mathlib.Core.Path.{_≡_, refl, sym, ap, ap₂, _∙_, subst}
 use mathlib.Core.Bool.{Bool, true, false}
 use mathlib.Core.Logic.{⊎-elim}
-use mathlib.Core.List.{List, [], _∷_, List·Memᴰ, List·Memᴰ·head, List·Memᴰ·tail}
-use Prim.Native.Nat.{ℕ, zero, suc, _-_, _^_, _≤_, _<_, min}
-use native.Mathlib.Nat.{not-suc-le-zero, le-of-suc-le-suc, mod-eq-of-lt}
+use mathlib.Core.List.{List, [], _∷_}
+use Prim.Native.Nat.{ℕ, zero, suc, _≤_, _<_, min}
+use native.Mathlib.Nat.{not-suc-le-zero, le-of-suc-le-suc}
 use native.Mathlib.Omega.{arith}
-use lib.Bits.{and-mask}
 use lib.ListN.{length, take, length-take}
-use Rattle.sets.specs.Sets.{_∩_, members}
+use Rattle.sets.specs.Sets.{OBJECTS}
 use Rattle.sets.proofs.Numbers.{lt-or-le}
-use Rattle.sets.proofs.Members.{members-only}
 use Rattle.reduction.specs.Steps.{Family}
-use Rattle.reduction.specs.Kept.{cutTo, maximal}
-use Rattle.reduction.specs.Packed.{padded, packed}
-use Rattle.reduction.specs.declared.SetList.{SetList}
+use Rattle.reduction.specs.Kept.{maximal}
+use Rattle.reduction.specs.Packed.{padded}
 use Rattle.scheme.specs.declared.Scheme.{Scheme}
 use Rattle.scheme.specs.declared.ObjectList.{ObjectList}
 use Rattle.scheme.specs.declared.MaximalList.{MaximalList}
@@ -25,11 +22,10 @@ use Rattle.scheme.specs.Growing.{grown}
 use Rattle.scheme.specs.MaximalObjects.{allGrown, computed, counted, removing, adding, maximalObjects, bothKinds}
 use Rattle.scheme.specs.MaximalObjects.{someCyclic}
 use Rattle.scheme.specs.OfScheme.{pairs, listed, setsOf, HasRoom, declaredOf, removedOf, computedOf, maximalOf}
-use Rattle.scheme.specs.OfScheme.{countingOf, bothOf, cyclicOf, maximalListOf}
-use Rattle.scheme.proofs.Growing.{of-map, grown-lt}
+use Rattle.scheme.specs.OfScheme.{MAXIMALS, countingOf, bothOf, cyclicOf, maximalListOf}
 use Rattle.scheme.proofs.Removals.{length-removing, length-adding}
 use Rattle.scheme.proofs.MaximalObjects.{length-computed}
-use Rattle.scheme.proofs.Packing.{Listing, packed-listing, listing-take, listed-listing}
+use Rattle.scheme.proofs.Packing.{listing-take, listed-listing}
 use Rattle.scheme.proofs.Loops.{length-given}
 
 -- ---- counts over an array's length
@@ -59,80 +55,73 @@ pairs-at-most m n ls rs e = ⊎-elim inside past (lt-or-le m n)
 
 -- ---- the computed list
 
-cut-to-all : (F : Family) → ((s : ℕ) → List·Memᴰ s F → s < 2 ^ 32) → cutTo (2 ^ 32 - 1) F ≡ F
-unfolding _∩_
-cut-to-all [] h = refl
-cut-to-all (s ∷ F) h =
-    ap₂ (λ (x : ℕ) (l : Family). x ∷ l) (and-mask s 32 ∙ mod-eq-of-lt (h s (List·Memᴰ·head refl)))
-    (cut-to-all F (λ t m. h t (List·Memᴰ·tail m)))
-
 module _ (D : List Dependency) (sets : List ℕ) (objects : ℕ) where
-  all-grown-lt : (s : ℕ) → List·Memᴰ s (allGrown D sets objects) → s < 2 ^ 32
-  all-grown-lt s m =
-      let i = of-map (grown D sets objects) (members 32 objects) m in
-      subst (λ (x : ℕ). x < 2 ^ 32) (sym (i .gives)) (grown-lt D sets objects (members-only 32 objects (i .there) .0))
+  grown-few : length (allGrown D sets objects) ≤ MAXIMALS
+  grown-few = omega (arith, length-given (grown D sets objects) objects OBJECTS)
 
-  pub grown-listing : {p : SetList} → p ≡ packed (allGrown D sets objects)
-      → Listing 32 (allGrown D sets objects) (p .count) (p .sets)
-  grown-listing e = packed-listing e (length-given (grown D sets objects) objects 32)
+  -- the grown sets, read back out of their array
+  pub grown-list : {p : ObjectList} {l : List ℕ} → p ≡ listed (allGrown D sets objects) → l ≡ take (p .count) (p .sets)
+      → l ≡ allGrown D sets objects
+  grown-list e q = q ∙ listing-take (listed-listing e grown-few)
 
-  pub computed-by : (p : SetList) (l : List ℕ) → p ≡ packed (allGrown D sets objects) → l ≡ take (p .count) (p .sets)
-      → packed (maximal (cutTo (2 ^ 32 - 1) l)) ≡ packed (computed D sets objects)
+  pub grown-fits : {l : List ℕ} → l ≡ allGrown D sets objects → length l ≤ MAXIMALS
+  grown-fits e = subst (λ (x : List ℕ). length x ≤ MAXIMALS) (sym e) grown-few
+
+  pub computed-by : {l : List ℕ} → l ≡ allGrown D sets objects → listed (maximal l) ≡ listed (computed D sets objects)
   unfolding computed
-  computed-by p l e q =
-      ap (λ (F : Family). packed (maximal F))
-      (ap (cutTo (2 ^ 32 - 1)) (q ∙ listing-take (grown-listing e)) ∙ cut-to-all (allGrown D sets objects) all-grown-lt)
+  computed-by e = ap (λ (F : Family). listed (maximal F)) e
 
 -- those of a list that count, as the code has them
-counted-by : (b : Bool) (p : SetList) {n : ℕ} {l m : List ℕ} → take (p .count) (p .sets) ≡ m
+counted-by : (b : Bool) (p : ObjectList) {n : ℕ} {l m : List ℕ} → take (p .count) (p .sets) ≡ m
     → n ≡ countingOf b (p .count) → l ≡ take n (p .sets) → l ≡ counted b m
 unfolding counted countingOf
 counted-by true p t q z = z ∙ ap (λ (i : ℕ). take i (p .sets)) q
 counted-by false p t q z = z ∙ ap (λ (i : ℕ). take i (p .sets)) q ∙ t
 
-counted-few : (b : Bool) (l : List ℕ) → length l ≤ 32 → length (counted b l) ≤ 32
+counted-few : (b : Bool) (l : List ℕ) → length l ≤ OBJECTS → length (counted b l) ≤ OBJECTS
 unfolding counted
 counted-few true l h = omega arith
 counted-few false l h = h
 
 module _ (s : Scheme) where
-  pub computed-of : {r : SetList} {n : ℕ} → length (s .left) ≡ 64 → n ≡ min (s .dependencies) 64
-      → r ≡ packed (computed (pairs n (s .left) (s .right)) (s .sets) (s .objects)) → r ≡ packed (computedOf s)
+  pub computed-of : {r : ObjectList} {n : ℕ} → length (s .left) ≡ 64 → n ≡ min (s .dependencies) 64
+      → r ≡ listed (computed (pairs n (s .left) (s .right)) (s .sets) (s .objects)) → r ≡ listed (computedOf s)
   unfolding computedOf
   computed-of l e q =
-      q ∙ ap (λ (D : List Dependency). packed (computed D (s .sets) (s .objects)))
+      q ∙ ap (λ (D : List Dependency). listed (computed D (s .sets) (s .objects)))
       (ap (λ (k : ℕ). pairs k (s .left) (s .right)) e ∙ pairs-at-most (s .dependencies) 64 (s .left) (s .right) l)
 
   -- ---- the list of maximal objects
 
-  length-found : length (computedOf s) ≤ 32
+  length-found : length (computedOf s) ≤ OBJECTS
   unfolding computedOf
   length-found = length-computed (pairs (s .dependencies) (s .left) (s .right)) (s .sets) (s .objects)
 
   -- the computed list, read back out of its array
-  pub found-list : {p : SetList} {l : List ℕ} → p ≡ packed (computedOf s) → l ≡ take (p .count) (p .sets)
+  pub found-list : {p : ObjectList} {l : List ℕ} → p ≡ listed (computedOf s) → l ≡ take (p .count) (p .sets)
       → l ≡ computedOf s
-  found-list e q = q ∙ listing-take (packed-listing e length-found)
+  found-list e q = q ∙ listing-take (listed-listing e (omega (arith, length-found)))
 
   -- those that count
   abbrev counts : List ℕ
   counts = counted (s .maximal .only) (computedOf s)
 
-  pub counted-list : {p : SetList} {n : ℕ} {l : List ℕ} → p ≡ packed (computedOf s) → n
+  pub counted-list : {p : ObjectList} {n : ℕ} {l : List ℕ} → p ≡ listed (computedOf s)
+      → n
       ≡ countingOf (s .maximal .only) (p .count)
       → l ≡ take n (p .sets) → l ≡ counts
   counted-list {p} e q z = counted-by (s .maximal .only) p (found-list e refl) q z
 
-  length-counts : length counts ≤ 32
+  length-counts : length counts ≤ OBJECTS
   length-counts = counted-few (s .maximal .only) (computedOf s) length-found
 
-  pub found-few : {l : List ℕ} → l ≡ counts → length l ≤ 32
-  found-few e = subst (λ (x : List ℕ). length x ≤ 32) (sym e) length-counts
+  pub found-few : {l : List ℕ} → l ≡ counts → length l ≤ OBJECTS
+  found-few e = subst (λ (x : List ℕ). length x ≤ OBJECTS) (sym e) length-counts
 
   abbrev remaining : List ℕ
   remaining = removing counts (removedOf s)
 
-  rest-few : length remaining ≤ 32
+  rest-few : length remaining ≤ OBJECTS
   rest-few = omega (arith, length-removing (removedOf s) counts, length-counts)
 
   pub rest-of : {p : ObjectList} {l r : List ℕ} → l ≡ counts → r ≡ removedOf s → p ≡ listed (removing l r)
@@ -158,8 +147,8 @@ module _ (s : Scheme) where
   unfolding maximalOf maximalObjects computedOf
   all-of e q t = t ∙ ap₂ (λ (x y : List ℕ). listed (adding x y)) (rest-list e) q
 
-  -- at most 40 of them, read back out of their array
-  pub all-few : length (s .maximal .declared) ≡ 8 → length (maximalOf s) ≤ 40
+  -- at most MAXIMALS of them, read back out of their array
+  pub all-few : length (s .maximal .declared) ≡ 8 → length (maximalOf s) ≤ MAXIMALS
   unfolding maximalOf maximalObjects computedOf
   all-few l = omega (arith, length-adding remaining (declaredOf s), rest-few, declared-few l refl)
 
@@ -183,7 +172,7 @@ module _ (s : Scheme) where
       ap {B = MaximalList}
       (λ (x : ObjectList). record { sets = x .sets; count = x .count; both = u; cyclic = y }) e
       ∙ ap₂ {C = MaximalList} (λ (b c : Bool). record {
-        sets = padded 40 (maximalOf s);
+        sets = padded MAXIMALS (maximalOf s);
         count = length (maximalOf s);
         both = b;
         cyclic = c;

@@ -7,12 +7,13 @@ use Prim.Native.Nat.{ℕ, zero, suc, _+_, _≤_, _<_, min}
 use native.Mathlib.Nat.{not-suc-le-zero, le-of-suc-le-suc}
 use native.Mathlib.Omega.{arith}
 use lib.ListN.{length, take, set, length-append}
+use Rattle.sets.specs.Sets.{OBJECTS}
 use Rattle.reduction.specs.Steps.{Family}
 use Rattle.reduction.proofs.Loops.{length-padded}
 use Rattle.reduction.specs.Packed.{padded, packed}
 use Rattle.reduction.specs.declared.SetList.{SetList}
 use Rattle.scheme.specs.declared.ObjectList.{ObjectList}
-use Rattle.scheme.specs.OfScheme.{listed}
+use Rattle.scheme.specs.OfScheme.{listed, MAXIMALS}
 
 -- ---- lists in arrays
 
@@ -69,7 +70,8 @@ module _ {n : ℕ} {L : List ℕ} {count : ℕ} {out : List ℕ} (v : Listing n 
 
 -- ---- packed families
 
-pub packed-listing : {F : Family} {p : SetList} → p ≡ packed F → length F ≤ 32 → Listing 32 F (p .count) (p .sets)
+pub packed-listing : {F : Family} {p : SetList} → p ≡ packed F → length F ≤ OBJECTS
+    → Listing OBJECTS F (p .count) (p .sets)
 unfolding packed
 packed-listing {F} {p} e h = record {
   stored = ap (λ (x : SetList). x .sets) e;
@@ -77,26 +79,27 @@ packed-listing {F} {p} e h = record {
   fits = h;
 }
   where
-    whole : min (length F) 32 ≡ length F
+    whole : min (length F) OBJECTS ≡ length F
     whole = omega arith
 
-pub listing-packed : {F : Family} {count : ℕ} {out : List ℕ} → Listing 32 F count out
+pub listing-packed : {F : Family} {count : ℕ} {out : List ℕ} → Listing OBJECTS F count out
     → _≡_ {A = SetList} (record { sets = out; count = count }) (packed F)
 unfolding packed
 listing-packed {F} v =
     ap₂ {C = SetList} (λ (o : Family) (n : ℕ). record { sets = o; count = n }) (v .stored) (v .counted ∙ whole)
   where
-    whole : length F ≡ min (length F) 32
+    whole : length F ≡ min (length F) OBJECTS
     whole = omega (arith, v .fits)
 
 -- ---- lists of maximal objects
 
-pub listed-listing : {L : List ℕ} {p : ObjectList} → p ≡ listed L → length L ≤ 40 → Listing 40 L (p .count) (p .sets)
+pub listed-listing : {L : List ℕ} {p : ObjectList} → p ≡ listed L → length L ≤ MAXIMALS
+    → Listing MAXIMALS L (p .count) (p .sets)
 unfolding listed
 listed-listing e h =
     record { stored = ap (λ (x : ObjectList). x .sets) e; counted = ap (λ (x : ObjectList). x .count) e; fits = h }
 
-pub listing-listed : {L : List ℕ} {count : ℕ} {out : List ℕ} → Listing 40 L count out
+pub listing-listed : {L : List ℕ} {count : ℕ} {out : List ℕ} → Listing MAXIMALS L count out
     → _≡_ {A = ObjectList} (record { sets = out; count = count }) (listed L)
 unfolding listed
 listing-listed v =

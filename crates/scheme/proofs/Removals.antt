@@ -13,7 +13,7 @@ use native.Mathlib.Omega.{arith}
 use lib.Dec.{eqb, ltb}
 use lib.ListN.{length, length-append}
 use borrow.Author.Tests.{eq-eqb, eqb-true, not-true, not-false, lt-ltb, ltb-true}
-use Rattle.sets.proofs.Tests.{not-yes, yes-no, and-yes, yes-and}
+use Rattle.sets.proofs.Tests.{yes-no, and-yes, yes-and}
 use Rattle.reduction.specs.Steps.{at, NoneTwice}
 use Rattle.reduction.specs.Kept.{acyclic}
 use Rattle.reduction.proofs.Places.{mem-at}
@@ -37,9 +37,6 @@ pub yes-isOne : (s : ℕ) (l : List ℕ) → isOne s l ≡ true → List·Memᴰ
 yes-isOne s l e =
     let r = yes-some (isOne-asks s) l e in
     subst (λ (x : ℕ). List·Memᴰ x l) (sym (eqb-true s (r .one) (r .passing))) (r .there)
-
-pub isOne-no : (s : ℕ) (l : List ℕ) → (List·Memᴰ s l → ⊥) → isOne s l ≡ false
-isOne-no s l n = not-yes (λ e. n (yes-isOne s l e))
 
 pub no-isOne : (s : ℕ) (l : List ℕ) → isOne s l ≡ false → List·Memᴰ s l → ⊥
 no-isOne s l e m = yes-no (isOne-yes m) e

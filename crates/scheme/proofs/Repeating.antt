@@ -1,5 +1,5 @@
 -- A step that adds members to a set, repeated until it adds none: the passes of the closure and the rounds of growing.
--- A set that gets a member is a larger number, so a set of 32 bits does so fewer than 2 ^ 32 times.
+-- A set that gets a member is a larger number, so a set of w bits does so fewer than 2 ^ w times.
 -- In order: repetition, what it lies in, where it ends, the loop that repeats a step.
 -- Assumes nothing.
 use mathlib.Core.Path.{_≡_, sym, ap, _∙_, subst}
@@ -20,9 +20,9 @@ pub record Repeats (f : ℕ → ℕ) (repeats : ℕ → ℕ → ℕ) : Type 0 wh
   pub none : (A : ℕ) → repeats zero A ≡ A
   pub more : (n A : ℕ) → repeats (suc n) A ≡ elim (eqb (f A) A) [ true ↦ A | false ↦ repeats n (f A) ]
 
--- a set of 32 bits lies in its next one
-abbrev pub Grows : (ℕ → ℕ) → Type 0
-Grows f = (A : ℕ) → A < 2 ^ 32 → A ⊆ f A
+-- a set of w bits lies in its next one
+abbrev pub Grows : ℕ → (ℕ → ℕ) → Type 0
+Grows w f = (A : ℕ) → A < 2 ^ w → A ⊆ f A
 
 module _ {f : ℕ → ℕ} {repeats : ℕ → ℕ → ℕ} (p : Repeats f repeats) where
   repeats-same : (n : ℕ) {A : ℕ} → f A ≡ A → repeats n A ≡ A
@@ -47,59 +47,59 @@ module _ {f : ℕ → ℕ} {repeats : ℕ → ℕ → ℕ} (p : Repeats f repeat
 
   -- ---- where it ends
 
-  -- G is a set of 32 bits around A to which a step adds nothing
-  pub record EndsIn (A G : ℕ) : Type 0 where
-    pub below : G < 2 ^ 32
+  -- G is a set of w bits around A to which a step adds nothing
+  pub record EndsIn (w A G : ℕ) : Type 0 where
+    pub below : G < 2 ^ w
     pub around : A ⊆ G
     pub fixed : f G ≡ G
 
-  module _ (grows : Grows f) where
-    pub repeats-ends : ((A : ℕ) → A < 2 ^ 32 → f A < 2 ^ 32) → (n A : ℕ) → A < 2 ^ 32 → 2 ^ 32 ≤ A + n
-        → EndsIn A (repeats n A)
+  module _ (w : ℕ) (grows : Grows w f) where
+    pub repeats-ends : ((A : ℕ) → A < 2 ^ w → f A < 2 ^ w) → (n A : ℕ) → A < 2 ^ w → 2 ^ w ≤ A + n
+        → EndsIn w A (repeats n A)
     repeats-ends fits zero A h enough = absurd (omega arith)
     repeats-ends fits (suc n) A h enough =
         ⊎-elim same (λ d. more d (λ l. repeats-ends fits n (f A) (fits A h) (omega arith))) (eq-or-ne (f A) A)
       where
-        same : f A ≡ A → EndsIn A (repeats (suc n) A)
+        same : f A ≡ A → EndsIn w A (repeats (suc n) A)
         same e =
-            subst (EndsIn A) (sym (repeats-same (suc n) e)) (record { below = h; around = ⊆-refl A; fixed = e })
+            subst (EndsIn w A) (sym (repeats-same (suc n) e)) (record { below = h; around = ⊆-refl A; fixed = e })
 
-        more : (f A ≡ A → ⊥) → (A < f A → EndsIn (f A) (repeats n (f A))) → EndsIn A (repeats (suc n) A)
+        more : (f A ≡ A → ⊥) → (A < f A → EndsIn w (f A) (repeats n (f A))) → EndsIn w A (repeats (suc n) A)
         more d next =
             let r = next (⊆-lt (grows A h) (λ e. d (sym e))) in
-            subst (EndsIn A) (sym (repeats-more n d))
+            subst (EndsIn w A) (sym (repeats-more n d))
             (record { below = r .below; around = ⊆-trans (grows A h) (r .around); fixed = r .fixed })
 
-    -- ---- the loop that repeats a step. The measure: 2 ^ 32 less the set
+    -- ---- the loop that repeats a step. The measure: 2 ^ w less the set
 
     -- some number of turns leads from A to the whole, and the next set is one step
     pub record Repeating (whole A next : ℕ) : Type 0 where
       pub turns : ℕ
-      pub enough : 2 ^ 32 ≤ A + turns
+      pub enough : 2 ^ w ≤ A + turns
       pub leads : repeats turns A ≡ whole
       pub step : next ≡ f A
-      pub below : A < 2 ^ 32
-      pub nextBelow : next < 2 ^ 32
+      pub below : A < 2 ^ w
+      pub nextBelow : next < 2 ^ w
 
-    pub repeating-start : {whole A next : ℕ} → A < 2 ^ 32 → next < 2 ^ 32 → next ≡ f A → repeats (2 ^ 32) A ≡ whole
+    pub repeating-start : {whole A next : ℕ} → A < 2 ^ w → next < 2 ^ w → next ≡ f A → repeats (2 ^ w) A ≡ whole
         → Repeating whole A next
     repeating-start h l e q =
-        record { turns = 2 ^ 32; enough = omega arith; leads = q; step = e; below = h; nextBelow = l }
+        record { turns = 2 ^ w; enough = omega arith; leads = q; step = e; below = h; nextBelow = l }
 
     module _ {whole A next : ℕ} (v : Repeating whole A next) where
       larger : (next ≡ A → ⊥) → A < f A
       larger d = ⊆-lt (grows A (v .below)) (λ e. d (v .step ∙ sym e))
 
-      pub repeating-less : (next ≡ A → ⊥) → 2 ^ 32 - next < 2 ^ 32 - A
+      pub repeating-less : (next ≡ A → ⊥) → 2 ^ w - next < 2 ^ w - A
       repeating-less d = omega (arith, larger d)
 
       pub repeating-end : next ≡ A → A ≡ whole
       repeating-end e = sym (repeats-same (v .turns) (sym (v .step) ∙ e)) ∙ v .leads
 
-      pub repeating-next : (r : ℕ) → (next ≡ A → ⊥) → r < 2 ^ 32 → r ≡ f next → Repeating whole next r
+      pub repeating-next : (r : ℕ) → (next ≡ A → ⊥) → r < 2 ^ w → r ≡ f next → Repeating whole next r
       repeating-next r d h e = go (v .turns) (v .enough) (v .leads)
         where
-          go : (n : ℕ) → 2 ^ 32 ≤ A + n → repeats n A ≡ whole → Repeating whole next r
+          go : (n : ℕ) → 2 ^ w ≤ A + n → repeats n A ≡ whole → Repeating whole next r
           go zero enough leads = absurd (omega (arith, v .below))
           go (suc n) enough leads = record {
             turns = n;

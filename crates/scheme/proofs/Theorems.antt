@@ -4,7 +4,7 @@
 use mathlib.Core.Bool.{Bool}
 use mathlib.Core.List.{List}
 use Prim.Native.Nat.{ℕ, _^_, _<_}
-use Rattle.sets.specs.Sets.{_∈_, _⊆_}
+use Rattle.sets.specs.Sets.{_∈_, _⊆_, ATTRIBUTES, OBJECTS}
 use Rattle.scheme.specs.Dependencies.{Dependency, LeastClosed, closure}
 use Rattle.scheme.specs.Growing.{LeastGrown, grown}
 use Rattle.scheme.specs.Statements.{DeterminesAttributes, Bounded, JoinsByTheRule, GrownInEveryOrder}
@@ -17,18 +17,18 @@ use Rattle.scheme.proofs.MaximalObjects.{computed-list, maximal-object-
 
 -- ---- the closure
 
-pub closure-is-least : (D : List Dependency) → DeterminesAttributes D → (A : ℕ) → A < 2 ^ 32
+pub closure-is-least : (D : List Dependency) → DeterminesAttributes D → (A : ℕ) → A < 2 ^ ATTRIBUTES
     → LeastClosed D A (closure D A)
 closure-is-least D o A h = closure-least D o h
 
-pub closure-is-monotone : (D : List Dependency) → DeterminesAttributes D → (A B : ℕ) → B < 2 ^ 32 → A ⊆ B
+pub closure-is-monotone : (D : List Dependency) → DeterminesAttributes D → (A B : ℕ) → B < 2 ^ ATTRIBUTES → A ⊆ B
     → closure D A ⊆ closure D B
 closure-is-monotone D o A B h s = closure-mono D o h s
 
 -- ---- grown sets
 
 module _ (D : List Dependency) (sets : List ℕ) (objects : ℕ) (o : Bounded D sets objects) where
-  pub object-joins-by-the-rule : (H : ℕ) → H < 2 ^ 32 → (k : ℕ) → JoinsByTheRule D sets H k
+  pub object-joins-by-the-rule : (H : ℕ) → H < 2 ^ OBJECTS → (k : ℕ) → JoinsByTheRule D sets H k
   object-joins-by-the-rule H h k = joins-by-the-rule D sets objects o h k
 
   pub grown-is-least : (start : ℕ) → start ∈ objects → LeastGrown D sets objects start (grown D sets objects start)

@@ -5,7 +5,7 @@ use mathlib.Core.Bool.{true, false}
 use mathlib.Core.List.{List, [], _∷_, List·Memᴰ}
 use Prim.Native.Nat.{ℕ, zero, suc, _^_}
 use lib.Dec.{eqb}
-use Rattle.sets.specs.Sets.{_⊆_, within, _∪_}
+use Rattle.sets.specs.Sets.{_⊆_, within, _∪_, ATTRIBUTES}
 
 -- ---- dependencies
 
@@ -37,6 +37,6 @@ unfoldable pub passes : List Dependency → ℕ → ℕ → ℕ
 passes D zero A = A
 passes D (suc n) A = elim (eqb (pass D A) A) [ true ↦ A | false ↦ passes D n (pass D A) ]
 
--- the closure of A. A pass that adds an attribute makes the set a larger number, so 2 ^ 32 passes are enough
+-- the closure of A. A pass that adds an attribute makes the set a larger number, so 2 ^ ATTRIBUTES passes are enough
 unfoldable pub closure : List Dependency → ℕ → ℕ
-closure D A = passes D (2 ^ 32) A
+closure D A = passes D (2 ^ ATTRIBUTES) A

@@ -9,7 +9,7 @@ use mathlib.Core.List.{List, map}
 use Prim.Native.Nat.{ℕ, zero, suc, _^_}
 use lib.Dec.{eqb}
 use lib.ListN.{getD}
-use Rattle.sets.specs.Sets.{_∈_, _∉_, _⊆_, has, within, _∩_, insert, single, members}
+use Rattle.sets.specs.Sets.{_∈_, _∉_, _⊆_, has, within, _∩_, insert, single, members, OBJECTS}
 use Rattle.reduction.specs.Steps.{Family}
 use Rattle.reduction.specs.Kept.{union}
 use Rattle.scheme.specs.Dependencies.{Dependency, closure}
@@ -18,7 +18,7 @@ use Rattle.scheme.specs.Dependencies.{Dependency, closure}
 
 -- the sets of the objects of H, ascending: the family of a maximal object
 unfoldable pub familyOf : List ℕ → ℕ → Family
-familyOf sets H = map (λ k. getD sets k 0) (members 32 H)
+familyOf sets H = map (λ k. getD sets k 0) (members OBJECTS H)
 
 -- the attributes of the objects of H
 unfoldable pub attributesOf : List ℕ → ℕ → ℕ
@@ -59,9 +59,9 @@ holding D sets objects H (suc k) =
       | false ↦ holding D sets objects H k
     ]
 
--- one round. Objects are 0 to 31
+-- one round. Objects are those below OBJECTS
 abbrev pub round : List Dependency → List ℕ → ℕ → ℕ → ℕ
-round D sets objects H = holding D sets objects H 32
+round D sets objects H = holding D sets objects H OBJECTS
 
 -- rounds, n at most, until none joins
 unfoldable pub rounds : List Dependency → List ℕ → ℕ → ℕ → ℕ → ℕ
@@ -69,6 +69,7 @@ rounds D sets objects zero H = H
 rounds D sets objects (suc n) H =
     elim (eqb (round D sets objects H) H) [ true ↦ H | false ↦ rounds D sets objects n (round D sets objects H) ]
 
--- the set grown from a start. A round that holds an object makes the set a larger number, so 2 ^ 32 rounds are enough
+-- the set grown from a start. A round that holds an object makes the set a larger number, so 2 ^ OBJECTS rounds are
+-- enough
 unfoldable pub grown : List Dependency → List ℕ → ℕ → ℕ → ℕ
-grown D sets objects start = rounds D sets objects (2 ^ 32) (single start)
+grown D sets objects start = rounds D sets objects (2 ^ OBJECTS) (single start)

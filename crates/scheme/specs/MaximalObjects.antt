@@ -9,7 +9,7 @@ use mathlib.Core.Bool.{Bool, true, false, not, _&&_, _||_}
 use mathlib.Core.List.{List, [], _∷_, _++_, map}
 use Prim.Native.Nat.{ℕ}
 use lib.Dec.{eqb, ltb}
-use Rattle.sets.specs.Sets.{members}
+use Rattle.sets.specs.Sets.{members, OBJECTS}
 use Rattle.reduction.specs.Kept.{maximal, acyclic}
 use Rattle.scheme.specs.Dependencies.{Dependency}
 use Rattle.scheme.specs.Growing.{familyOf, grown}
@@ -18,7 +18,7 @@ use Rattle.scheme.specs.Growing.{familyOf, grown}
 
 -- the sets grown from the declared objects, starts ascending
 abbrev pub allGrown : List Dependency → List ℕ → ℕ → List ℕ
-allGrown D sets objects = map (grown D sets objects) (members 32 objects)
+allGrown D sets objects = map (grown D sets objects) (members OBJECTS objects)
 
 -- those properly inside another and repeats gone
 unfoldable pub computed : List Dependency → List ℕ → ℕ → List ℕ

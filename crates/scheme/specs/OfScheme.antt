@@ -6,6 +6,7 @@ use mathlib.Core.Bool.{Bool, true, false}
 use mathlib.Core.List.{List, [], _∷_}
 use Prim.Native.Nat.{ℕ, zero, suc, _+_, _≤_}
 use lib.ListN.{length, take}
+use Rattle.sets.specs.Sets.{OBJECTS}
 use Rattle.reduction.specs.Packed.{padded}
 use Rattle.scheme.specs.declared.Scheme.{Scheme}
 use Rattle.scheme.specs.declared.ObjectList.{ObjectList}
@@ -52,9 +53,13 @@ pub record Sides (n : ℕ) (left right : List ℕ) : Type 0 where
   pub leftThere : n ≤ length left
   pub rightThere : n ≤ length right
 
--- a list of at most 40 sets in an array, with 0 behind it, beside its count; and the list again
+-- "8 records of kind 5": how many maximal objects a scheme can have, one computed for each object and those declared
+abbrev pub MAXIMALS : ℕ
+MAXIMALS = OBJECTS + 8
+
+-- a list of at most so many sets of objects in an array, with 0 behind it, beside its count; and the list again
 unfoldable pub listed : List ℕ → ObjectList
-listed l = record { sets = padded 40 l; count = length l }
+listed l = record { sets = padded MAXIMALS l; count = length l }
 
 abbrev pub setsOf : ObjectList → List ℕ
 setsOf p = take (p .count) (p .sets)
@@ -62,7 +67,7 @@ setsOf p = take (p .count) (p .sets)
 -- a list with room for n sets more
 pub record HasRoom (p : ObjectList) (n : ℕ) : Type 0 where
   pub whole : p ≡ listed (setsOf p)
-  pub room : p .count + n ≤ 40
+  pub room : p .count + n ≤ MAXIMALS
 
 -- how many of so many computed sets count
 unfoldable pub countingOf : Bool → ℕ → ℕ
@@ -71,7 +76,7 @@ countingOf only n = elim only [ true ↦ 0 | false ↦ n ]
 -- the maximal objects with both faults
 unfoldable pub maximalListOf : Scheme → MaximalList
 maximalListOf s = record {
-  sets = padded 40 (maximalOf s);
+  sets = padded MAXIMALS (maximalOf s);
   count = length (maximalOf s);
   both = bothOf s;
   cyclic = cyclicOf s;

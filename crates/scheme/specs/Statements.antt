@@ -8,7 +8,7 @@ use mathlib.Core.Logic.{_⊎_, _↔_}
 use mathlib.Core.List.{List, [], _∷_, _++_, List·Memᴰ}
 use Prim.Native.Nat.{ℕ, _+_, _^_, _≤_, _<_}
 use lib.ListN.{length, getD}
-use Rattle.sets.specs.Sets.{_∈_, _⊆_, single}
+use Rattle.sets.specs.Sets.{_∈_, _⊆_, single, ATTRIBUTES, OBJECTS}
 use Rattle.reduction.specs.Steps.{at, NoneTwice}
 use Rattle.reduction.specs.Kept.{acyclic}
 use Rattle.reduction.specs.Statements.{OfAttributes, LiesIn}
@@ -16,16 +16,16 @@ use Rattle.scheme.specs.Dependencies.{Dependency, LeastClosed}
 use Rattle.scheme.specs.Growing.{familyOf, joins, Holding, grown}
 use Rattle.scheme.specs.MaximalObjects.{computed, removing, adding, maximalObjects, bothKinds, someCyclic}
 
--- ---- what a scheme has: attributes and objects 0 to 31
+-- ---- what a scheme has: attributes below ATTRIBUTES, objects below OBJECTS
 
--- what the dependencies determine are sets of attributes 0 to 31
+-- what the dependencies determine are sets of attributes
 pub record DeterminesAttributes (D : List Dependency) : Type 0 where
-  pub bounded : (d : Dependency) → List·Memᴰ d D → d .right < 2 ^ 32
+  pub bounded : (d : Dependency) → List·Memᴰ d D → d .right < 2 ^ ATTRIBUTES
 
 pub record Bounded (D : List Dependency) (sets : List ℕ) (objects : ℕ) : Type 0 where
   pub dependencies : DeterminesAttributes D
   pub attributes : OfAttributes sets
-  pub declared : objects < 2 ^ 32
+  pub declared : objects < 2 ^ OBJECTS
 
 -- ---- when an object joins
 
@@ -70,7 +70,7 @@ pub record ComputedList (D : List Dependency) (sets : List ℕ) (objects : ℕ) 
   pub byLowestStart : (i j a b : ℕ) → i < j → j < length (computed D sets objects)
       → LowestStart D sets objects (at (computed D sets objects) i) a
       → LowestStart D sets objects (at (computed D sets objects) j) b → a < b
-  pub atMost : length (computed D sets objects) ≤ 32
+  pub atMost : length (computed D sets objects) ≤ OBJECTS
 
 -- ---- removals and declarations
 
@@ -148,4 +148,4 @@ pub record MaximalObjectList (D : List Dependency) (sets : List ℕ) (objects : 
   pub someObjects : ((M : ℕ) → List·Memᴰ M declared → SomeObjects objects M)
       → (M : ℕ) → List·Memᴰ M (maximalObjects D sets objects only declared removed) → SomeObjects objects M
   pub noneTwice : NoneTwice (maximalObjects D sets objects only declared removed)
-  pub atMost : length (maximalObjects D sets objects only declared removed) ≤ 32 + length declared
+  pub atMost : length (maximalObjects D sets objects only declared removed) ≤ OBJECTS + length declared

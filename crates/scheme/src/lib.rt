@@ -5,15 +5,15 @@ ghost use mathlib.Core.Path.{_≡_};
 ghost use mathlib.Core.Bool.{not};
 ghost use Prim.Native.Nat.{_≤_, _<_, min};
 ghost use lib.ListN.{length, take};
-ghost use Rattle.sets.specs.Sets.{within, _∩_};
-ghost use Rattle.reduction.specs.Kept.{acyclic};
+ghost use Rattle.sets.specs.Sets.{within, _∩_, OBJECTS};
+ghost use Rattle.reduction.specs.Kept.{goes, keeps, maximal, acyclic};
 ghost use Rattle.reduction.specs.Packed.{packed};
 ghost use Rattle.scheme.specs.Dependencies.{pass, closure};
 ghost use Rattle.scheme.specs.Growing.{familyOf, attributesOf, round, grown};
 ghost use Rattle.scheme.specs.MaximalObjects.{allGrown, computed, isOne, removing, adding, bothKinds};
 ghost use Rattle.scheme.specs.MaximalObjects.{someCyclic};
 ghost use Rattle.scheme.specs.OfScheme.{pairs, Sides, listed, setsOf, HasRoom, computedOf, countingOf};
-ghost use Rattle.scheme.specs.OfScheme.{maximalListOf};
+ghost use Rattle.scheme.specs.OfScheme.{maximalListOf, MAXIMALS};
 use reduction::SetList;
 use sets::ATTRIBUTES;
 use sets::AttributeSet;
@@ -52,11 +52,21 @@ pub struct Scheme {
     pub table: TableOfMasks,
 }
 
+// How many maximal objects a scheme can have: one computed for each object, and those declared.
+pub const MAXIMALS: usize = OBJECTS as usize + 8;
+
 // The first n of a list, or the whole list where it has fewer: a list in an array, without the places behind it.
 pub fn first<'a>(list: &'a [u32], n: usize) -> &'a [u32]
     ensures { λ r. ⌜ now r ≡ take n (now (list .entry)) ⌝ }
 {
     if n < list.len() { &list[..n] } else { list }
+}
+
+// The same of a list of sets of objects.
+pub fn first_object_sets<'a>(found: &'a [ObjectSet], n: usize) -> &'a [ObjectSet]
+    ensures { λ r. ⌜ now r ≡ take n (now (found .entry)) ⌝ }
+{
+    if n < found.len() { &found[..n] } else { found }
 }
 
 // One pass: each dependency in turn whose left side is there adds its right side.
@@ -101,14 +111,14 @@ pub fn closure<'a>(
 
 // The sets of some objects, ascending: the family of a maximal object.
 pub fn family_of(sets: &[AttributeSet], objects: ObjectSet) -> SetList
-    requires { ⌜ 32 ≤ length (now sets) ⌝ }
+    requires { ⌜ OBJECTS ≤ length (now sets) ⌝ }
     ensures { λ r. ⌜ r ≡ packed (familyOf (now (sets .entry)) objects) ⌝ }
 {
     let mut out = [0u32; reduction::PLACES];
     let mut count: usize = 0;
     let mut k: u32 = 0;
     while k < OBJECTS {
-        if sets::has(objects, k) {
+        if sets::has_object(objects, k) {
             out[count] = sets[k as usize];
             count += 1;
         }
@@ -119,13 +129,13 @@ pub fn family_of(sets: &[AttributeSet], objects: ObjectSet) -> SetList
 
 // The attributes of some objects.
 pub fn attributes_of(sets: &[AttributeSet], objects: ObjectSet) -> AttributeSet
-    requires { ⌜ 32 ≤ length (now sets) ⌝ }
+    requires { ⌜ OBJECTS ≤ length (now sets) ⌝ }
     ensures { λ r. ⌜ r ≡ attributesOf (now (sets .entry)) objects ⌝ }
 {
     let mut all: AttributeSet = 0;
     let mut k: u32 = 0;
     while k < OBJECTS {
-        if sets::has(objects, k) {
+        if sets::has_object(objects, k) {
             all = sets::union(all, sets[k as usize]);
         }
         k += 1;
@@ -157,18 +167,18 @@ fn round<'a>(
     objects: ObjectSet,
     held: ObjectSet,
 ) -> ObjectSet
-    requires { ⌜ (Sides n (now left) (now right)) × (32 ≤ length (now sets)) ⌝ }
+    requires { ⌜ (Sides n (now left) (now right)) × (OBJECTS ≤ length (now sets)) ⌝ }
     ensures { λ r. ⌜ r ≡ round (pairs n (now (left .entry)) (now (right .entry))) (now (sets .entry)) objects held ⌝ }
 {
     let attributes = attributes_of(sets, held);
     let mut next: ObjectSet = 0;
     let mut k: u32 = 0;
     while k < OBJECTS {
-        if sets::has(held, k) {
-            next = sets::insert(next, k);
-        } else if sets::has(objects, k) {
+        if sets::has_object(held, k) {
+            next = sets::insert_object(next, k);
+        } else if sets::has_object(objects, k) {
             if is_determined(left, right, n, sets[k as usize], attributes) {
-                next = sets::insert(next, k);
+                next = sets::insert_object(next, k);
             }
         }
         k += 1;
@@ -185,16 +195,22 @@ pub fn grow<'a>(
     objects: ObjectSet,
     start: u32,
 ) -> ObjectSet
-    requires { ⌜ (Sides n (now left) (now right)) × (32 ≤ length (now sets)) × (start < 32) ⌝ }
+    requires { ⌜ (Sides n (now left) (now right)) × (OBJECTS ≤ length (now sets)) × (start < OBJECTS) ⌝ }
     ensures { λ r. ⌜ r ≡ grown (pairs n (now (left .entry)) (now (right .entry))) (now (sets .entry)) objects start ⌝ }
 {
-    let mut held = sets::single(start);
+    let mut held = sets::single_object(start);
     let mut next = round(left, right, n, sets, objects, held);
     while next != held {
         held = next;
         next = round(left, right, n, sets, objects, held);
     }
     held
+}
+
+// A list of sets of objects, as many as a scheme can have maximal objects; the places behind them are 0.
+pub struct ObjectList {
+    pub sets: [ObjectSet; MAXIMALS],
+    pub count: usize,
 }
 
 // The sets grown from each object, starts ascending.
@@ -204,21 +220,73 @@ fn grown_sets<'a>(
     n: usize,
     sets: &'a [AttributeSet],
     objects: ObjectSet,
-) -> SetList
-    requires { ⌜ (Sides n (now left) (now right)) × (32 ≤ length (now sets)) ⌝ }
-    ensures { λ r. ⌜ r ≡ packed (allGrown (pairs n (now (left .entry)) (now (right .entry))) (now (sets .entry)) objects) ⌝ }
+) -> ObjectList
+    requires { ⌜ (Sides n (now left) (now right)) × (OBJECTS ≤ length (now sets)) ⌝ }
+    ensures { λ r. ⌜ r
+        ≡ listed (allGrown (pairs n (now (left .entry)) (now (right .entry))) (now (sets .entry)) objects) ⌝ }
 {
-    let mut out = [0u32; reduction::PLACES];
+    let mut out: [ObjectSet; MAXIMALS] = [0; MAXIMALS];
     let mut count: usize = 0;
     let mut k: u32 = 0;
     while k < OBJECTS {
-        if sets::has(objects, k) {
+        if sets::has_object(objects, k) {
             out[count] = grow(left, right, n, sets, objects, k);
             count += 1;
         }
         k += 1;
     }
-    SetList { sets: out, count }
+    ObjectList { sets: out, count }
+}
+
+// Whether set i of a list goes for another one: an earlier one that contains it or one that has more.
+fn goes_for_another(list: &[ObjectSet], i: usize) -> bool
+    requires { ⌜ i < length (now list) ⌝ }
+    ensures { λ r. ⌜ r ≡ goes (now (list .entry)) i (length (now (list .entry))) ⌝ }
+{
+    let s = list[i];
+    let mut j: usize = 0;
+    while j < list.len() {
+        let t = list[j];
+        if sets::objects_within(s, t) {
+            if j < i {
+                return true;
+            }
+            if !sets::objects_within(t, s) {
+                return true;
+            }
+        }
+        j += 1;
+    }
+    false
+}
+
+// Whether set i of a list is kept: it has an object and goes for no other set.
+fn is_kept(list: &[ObjectSet], i: usize) -> bool
+    requires { ⌜ i < length (now list) ⌝ }
+    ensures { λ r. ⌜ r ≡ keeps (now (list .entry)) i ⌝ }
+{
+    if sets::no_objects(list[i]) {
+        return false;
+    }
+    !goes_for_another(list, i)
+}
+
+// The sets of a list that have an object and lie in no other, in their order, the first of equals.
+fn maximal_sets(grown: &[ObjectSet]) -> ObjectList
+    requires { ⌜ length (now grown) ≤ MAXIMALS ⌝ }
+    ensures { λ r. ⌜ r ≡ listed (maximal (now (grown .entry))) ⌝ }
+{
+    let mut out: [ObjectSet; MAXIMALS] = [0; MAXIMALS];
+    let mut count: usize = 0;
+    let mut i: usize = 0;
+    while i < grown.len() {
+        if is_kept(grown, i) {
+            out[count] = grown[i];
+            count += 1;
+        }
+        i += 1;
+    }
+    ObjectList { sets: out, count }
 }
 
 // The grown sets without those properly inside another and without repeats.
@@ -228,12 +296,13 @@ fn computed_sets<'a>(
     n: usize,
     sets: &'a [AttributeSet],
     objects: ObjectSet,
-) -> SetList
-    requires { ⌜ (Sides n (now left) (now right)) × (32 ≤ length (now sets)) ⌝ }
-    ensures { λ r. ⌜ r ≡ packed (computed (pairs n (now (left .entry)) (now (right .entry))) (now (sets .entry)) objects) ⌝ }
+) -> ObjectList
+    requires { ⌜ (Sides n (now left) (now right)) × (OBJECTS ≤ length (now sets)) ⌝ }
+    ensures { λ r. ⌜ r
+        ≡ listed (computed (pairs n (now (left .entry)) (now (right .entry))) (now (sets .entry)) objects) ⌝ }
 {
     let all = grown_sets(left, right, n, sets, objects);
-    reduction::maximal_sets(first(&all.sets, all.count), 0xffff_ffff)
+    maximal_sets(first_object_sets(&all.sets, all.count))
 }
 
 // Whether s is one of the list.
@@ -266,7 +335,7 @@ fn both_kinds(only: bool, removals: usize) -> bool
 
 // Whether the objects of m make a family with a cycle.
 fn is_cyclic(sets: &[AttributeSet], m: ObjectSet) -> bool
-    requires { ⌜ 32 ≤ length (now sets) ⌝ }
+    requires { ⌜ OBJECTS ≤ length (now sets) ⌝ }
     ensures { λ r. ⌜ r ≡ not (acyclic (familyOf (now (sets .entry)) m)) ⌝ }
 {
     let family = family_of(sets, m);
@@ -275,7 +344,7 @@ fn is_cyclic(sets: &[AttributeSet], m: ObjectSet) -> bool
 
 // Whether some one of the list has a cycle.
 fn some_cyclic<'a>(sets: &'a [AttributeSet], list: &'a [ObjectSet]) -> bool
-    requires { ⌜ 32 ≤ length (now sets) ⌝ }
+    requires { ⌜ OBJECTS ≤ length (now sets) ⌝ }
     ensures { λ r. ⌜ r ≡ someCyclic (now (sets .entry)) (now (list .entry)) ⌝ }
 {
     let mut i: usize = 0;
@@ -288,18 +357,12 @@ fn some_cyclic<'a>(sets: &'a [AttributeSet], list: &'a [ObjectSet]) -> bool
     false
 }
 
-// A list of at most 40 sets; the places behind them are 0.
-pub struct ObjectList {
-    pub sets: [ObjectSet; 40],
-    pub count: usize,
-}
-
 // The list without the sets that are named.
 fn without_removed<'a>(list: &'a [ObjectSet], removed: &'a [ObjectSet]) -> ObjectList
-    requires { ⌜ length (now list) ≤ 32 ⌝ }
+    requires { ⌜ length (now list) ≤ OBJECTS ⌝ }
     ensures { λ r. ⌜ r ≡ listed (removing (now (list .entry)) (now (removed .entry))) ⌝ }
 {
-    let mut out = [0u32; 40];
+    let mut out: [ObjectSet; MAXIMALS] = [0; MAXIMALS];
     let mut count: usize = 0;
     let mut i: usize = 0;
     while i < list.len() {
@@ -338,17 +401,17 @@ fn at_most(count: usize, length: usize) -> usize
 }
 
 // The computed maximal objects of a scheme.
-pub fn computed(s: Scheme) -> SetList
-    ensures { λ r. ⌜ r ≡ packed (computedOf s) ⌝ }
+pub fn computed(s: Scheme) -> ObjectList
+    ensures { λ r. ⌜ r ≡ listed (computedOf s) ⌝ }
 {
     let n = at_most(s.dependencies, 64);
     computed_sets(&s.left, &s.right, n, &s.sets, s.objects)
 }
 
-// The maximal objects of a scheme, at most 40, with the two faults: a set to be removed where only declared ones count,
-// and a maximal object with a cycle. The places behind the sets are 0.
+// The maximal objects of a scheme with the two faults: a set to be removed where only declared ones count, and a
+// maximal object with a cycle. The places behind the sets are 0.
 pub struct MaximalList {
-    pub sets: [ObjectSet; 40],
+    pub sets: [ObjectSet; MAXIMALS],
     pub count: usize,
     pub both: bool,
     pub cyclic: bool,
@@ -359,12 +422,15 @@ pub fn maximal_objects(s: Scheme) -> MaximalList
     ensures { λ r. ⌜ r ≡ maximalListOf s ⌝ }
 {
     let found = computed(s);
-    let list = first(&found.sets, counting(s.maximal.only, found.count));
-    let removed = first(&s.maximal.removed, s.maximal.removals);
+    let list = first_object_sets(&found.sets, counting(s.maximal.only, found.count));
+    let removed = first_object_sets(&s.maximal.removed, s.maximal.removals);
     let rest = without_removed(list, removed);
     let both = both_kinds(s.maximal.only, s.maximal.removals);
-    let all = with_declared(rest, first(&s.maximal.declared, s.maximal.declarations));
-    let cyclic = some_cyclic(&s.sets, first(&all.sets, all.count));
+    let all = with_declared(
+        rest,
+        first_object_sets(&s.maximal.declared, s.maximal.declarations),
+    );
+    let cyclic = some_cyclic(&s.sets, first_object_sets(&all.sets, all.count));
     let sets = all.sets;
     MaximalList {
         sets,

@@ -8,7 +8,7 @@ use Prim.Native.Nat.{ℕ, zero, suc, _+_, _^_, _≤_, _<_}
 use native.Mathlib.Nat.{le-antisymm}
 use native.Mathlib.Numerals.{add-one}
 use native.Mathlib.Omega.{arith}
-use Rattle.sets.specs.Sets.{_∈_, has, within, withinEach}
+use Rattle.sets.specs.Sets.{_∈_, has, within, withinEach, ATTRIBUTES}
 use Rattle.sets.proofs.Numbers.{eq-or-ne}
 use Rattle.sets.proofs.Bits.{member-or-not, member-lt}
 use Rattle.sets.proofs.Tests.{yes-or-no, yes-no, not-yes, and-yes, yes-and, or-left, or-right, yes-or}
@@ -51,14 +51,14 @@ plain-agrees w s t h =
 -- ---- the loop: the attributes below k are asked
 
 pub record EachSoFar (s t k : ℕ) : Type 0 where
-  pub inside : k ≤ 32
+  pub inside : k ≤ ATTRIBUTES
   pub so : withinEach k s t ≡ true
 
 pub each-start : (s t : ℕ) → EachSoFar s t 0
 unfolding withinEach
 each-start s t = record { inside = omega arith; so = refl }
 
-module _ {s t k : ℕ} (v : EachSoFar s t k) (h : k < 32) where
+module _ {s t k : ℕ} (v : EachSoFar s t k) (h : k < ATTRIBUTES) where
   pub each-next : (k ∈ s → k ∈ t) → EachSoFar s t (k + 1)
   unfolding withinEach
   each-next f = record {
@@ -66,8 +66,8 @@ module _ {s t k : ℕ} (v : EachSoFar s t k) (h : k < 32) where
     so = ap (λ (n : ℕ). withinEach n s t) (add-one k) ∙ and-yes (one-yes f) (v .so);
   }
 
-  pub each-failed : k ∈ s → (k ∈ t → ⊥) → withinEach 32 s t ≡ false
-  each-failed i d = not-yes (λ y. d (yes-each 32 s t y k h i))
+  pub each-failed : k ∈ s → (k ∈ t → ⊥) → withinEach ATTRIBUTES s t ≡ false
+  each-failed i d = not-yes (λ y. d (yes-each ATTRIBUTES s t y k h i))
 
-pub each-end : {s t k : ℕ} → EachSoFar s t k → 32 ≤ k → withinEach 32 s t ≡ true
+pub each-end : {s t k : ℕ} → EachSoFar s t k → ATTRIBUTES ≤ k → withinEach ATTRIBUTES s t ≡ true
 each-end {s} {t} v h = ap (λ (n : ℕ). withinEach n s t) (sym (le-antisymm (v .inside) h)) ∙ v .so

@@ -22,10 +22,6 @@ pub rank-suc-in : {s k : ℕ} → k ∈ s → rank s (suc k) ≡ suc (rank s k)
 unfolding rank
 rank-suc-in {s} {k} i = omega arith
 
-pub rank-suc-out : {s k : ℕ} → k ∉ s → rank s (suc k) ≡ rank s k
-unfolding rank
-rank-suc-out {s} {k} o = omega arith
-
 -- ---- its order
 
 pub rank-le : (s k : ℕ) → rank s k ≤ k

@@ -1,7 +1,7 @@
 -- Sets of attributes and of objects as masks: "A *set* is 32 bits; bit k stands for attribute or object k."
 -- A set is a number, of any width: a width w stands only where members are counted or listed, as the members below w.
--- In order: membership, containment, intersection, union, difference, one member more and one less, emptiness, rank and
--- count, the lowest member, the list of members, the numbers that pass a test. Not here: which sets a book may have
+-- In order: how many attributes and objects, membership, containment, intersection, union, difference, one member more
+-- and one less, emptiness, rank and count, the lowest member, the list of members, the numbers that pass a test. Not here: which sets a book may have
 -- (`scheme`, `book`).
 -- Assumes nothing.
 use mathlib.Core.Path.{_≡_}
@@ -15,6 +15,16 @@ use lib.Dec.{eqb}
 infixl 70 _∩_
 infixl 65 _∪_ _∖_
 infix 50 _∈_ _∉_ _⊆_
+-- ---- how many attributes and objects
+
+-- "A *set* is 32 bits; bit k stands for attribute or object k": attributes and objects are numbered from 0 on, at most
+-- so many of each
+abbrev pub ATTRIBUTES : ℕ
+ATTRIBUTES = 32
+
+abbrev pub OBJECTS : ℕ
+OBJECTS = 32
+
 -- ---- membership
 
 -- the bit of s at place k: 1 or 0

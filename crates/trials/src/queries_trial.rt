@@ -85,7 +85,11 @@ fn show(name: &[u8], book: &[u8], bytes: &[u8]) {
     let found = book::read(book, &mut directory);
     let scheme = found.scheme;
     text::word(name);
-    show_query(query::read(bytes, scheme, scheme::first(&found.maximal, found.maximals)));
+    show_query(query::read(
+        bytes,
+        scheme,
+        scheme::first_object_sets(&found.maximal, found.maximals),
+    ));
 }
 
 // A query over the book, and one over the book of one attribute.

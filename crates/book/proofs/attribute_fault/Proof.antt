@@ -1,8 +1,8 @@
 -- `book::attribute_fault` meets its contract: each way out is the first check of kind 1 that holds. Assumes nothing.
 use mathlib.Core.List.{[], _∷_}
-use lib.Dec.{ltb}
-use Rattle.sets.specs.Sets.{has}
-use borrow.Author.Tests.{lt-ltb, le-ltb}
+use lib.Dec.{leb}
+use Rattle.sets.specs.Sets.{has, ATTRIBUTES}
+use borrow.Author.Tests.{lt-ltb, le-ltb, le-leb, lt-leb}
 use Rattle.sets.proofs.Tests.{or-left, or-right, or-no}
 use Rattle.book.specs.Faults.{checks, faultOf}
 use Rattle.records.proofs.Checks.{first-yes, first-no, first-none, tested-member}
@@ -12,12 +12,12 @@ use Rattle.book.proofs.attribute_fault.Tie as tie
 
 returns : tie.Need-returns
 unfolding faultOf checks
-returns c = first-yes _ (or-left _ (lt-ltb 31 _ (c .if1 .taken)))
+returns c = first-yes _ (or-left _ (le-leb ATTRIBUTES _ (c .if1 .taken)))
 
 returns-2 : tie.Need-returns-2
 unfolding faultOf checks
 returns-2 c =
-    first-yes ((has _ _, 6) ∷ []) (or-right (ltb 31 (c .before .before .args .id)) (lt-ltb 3 (c .before .before .args
+    first-yes ((has _ _, 6) ∷ []) (or-right (leb ATTRIBUTES (c .before .before .args .id)) (lt-ltb 3 (c .before .before .args
     .kind) (c .if2 .taken)))
 
 wide-requires : tie.Need-wide-requires
@@ -29,7 +29,7 @@ has-requires c κs = search needs
 returns-3 : tie.Need-returns-3
 unfolding faultOf checks
 returns-3 c =
-    let range = or-no (le-ltb 31 _ (c .before .before .before .before .if1 .left)) (le-ltb 3 _ (c .before .before
+    let range = or-no (lt-leb ATTRIBUTES _ (c .before .before .before .before .if1 .left)) (le-ltb 3 _ (c .before .before
     .before .if2 .left)) in
     first-no _ _ range (first-yes _ (tested-member _ (c .before .has .ensures) (c .before .before .wide .ensures .0)
     (c .if3 .taken)))
@@ -37,7 +37,7 @@ returns-3 c =
 returns-4 : tie.Need-returns-4
 unfolding faultOf checks
 returns-4 c =
-    let range = or-no (le-ltb 31 _ (c .before .before .before .before .if1 .left)) (le-ltb 3 _ (c .before .before
+    let range = or-no (lt-leb ATTRIBUTES _ (c .before .before .before .before .if1 .left)) (le-ltb 3 _ (c .before .before
     .before .if2 .left)) in
     let new = tested-member _ (c .before .has .ensures) (c .before .before .wide .ensures .0) (c .if3 .left) in
     first-no _ _ range (first-no _ _ new first-none)

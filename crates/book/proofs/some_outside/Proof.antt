@@ -3,6 +3,7 @@
 use Prim.Native.Nat.{_-_}
 use mathlib.Core.Logic.{⊎-elim}
 use native.Mathlib.Omega.{arith}
+use Rattle.sets.specs.Sets.{ATTRIBUTES}
 use Rattle.records.proofs.Checks.{tested}
 use Rattle.book.proofs.Cells.{InsideSoFar, inside-start, place-in-row, outside-here, inside-with, inside-past}
 use Rattle.book.proofs.Cells.{inside-end}
@@ -14,7 +15,7 @@ abbrev Inv-loop : tie.InvT-loop
 Inv-loop set kinds cells a₀ a = InsideSoFar kinds set cells a
 
 abbrev μ-loop : tie.MeasureT-loop
-μ-loop set kinds cells a₀ a = 32 - a
+μ-loop set kinds cells a₀ a = ATTRIBUTES - a
 
 loop-holds : tie.Need-loop-holds Inv-loop μ-loop
 loop-holds c = inside-start _ _ _

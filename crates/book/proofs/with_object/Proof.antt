@@ -13,12 +13,12 @@ element-write-s c = search needs
 wide-requires : tie.Need-wide-requires
 wide-requires c κs = search needs
 
-insert-requires : tie.Need-insert-requires
-insert-requires c κs = search needs
+insert-object-requires : tie.Need-insert-object-requires
+insert-object-requires c κs = search needs
 
 returns : tie.Need-returns
 unfolding withObject
-returns c = cc (c .insert .ensures, c .before .wide .ensures .0)
+returns c = cc (c .insert-object .ensures, c .before .wide .ensures .0)
 
 pub with-object-spec : {M : Type 1} → statement M
-with-object-spec = tie.close (tie.spec mul-s element-write-s wide-requires insert-requires returns)
+with-object-spec = tie.close (tie.spec mul-s element-write-s wide-requires insert-object-requires returns)

@@ -1,6 +1,7 @@
 -- `relation::cell` meets its contract: the cell of an attribute stands at its rank among the six.
 -- Assumes nothing.
 use native.Mathlib.Omega.{arith}
+use Rattle.sets.specs.Sets.{ATTRIBUTES}
 use Rattle.sets.proofs.Bits.{member-lt}
 use Rattle.relation.proofs.BookRows.{cell-read, cell-within}
 use borrow.Author.Needs.{needs}
@@ -8,7 +9,7 @@ use Rattle.relation.proofs.cell.Statement.{statement}
 use Rattle.relation.proofs.cell.Tie as tie
 
 rank-requires : tie.Need-rank-requires
-rank-requires c κs = member-lt 32 (c .before .fits .s .fits) (c .before .pre .1)
+rank-requires c κs = member-lt ATTRIBUTES (c .before .fits .s .fits) (c .before .pre .1)
 
 cast-place : tie.Need-cast-place
 cast-place c = search needs

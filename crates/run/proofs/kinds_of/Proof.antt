@@ -6,12 +6,12 @@ use Rattle.run.proofs.Returns.{asked-good, kinds-found}
 use Rattle.run.proofs.kinds_of.Statement.{statement}
 use Rattle.run.proofs.kinds_of.Tie as tie
 
-slice-aggregate-first : tie.Need-slice-aggregate-first
-slice-aggregate-first c = sym (maximal-long (c .before .before .before .before .pre .bytes) (c .before .before
+slice-aggregate-first-object-sets : tie.Need-slice-aggregate-first-object-sets
+slice-aggregate-first-object-sets c = sym (maximal-long (c .before .before .before .before .pre .bytes) (c .before .before
     .before .before .pre .isRead))
 
-first-requires : tie.Need-first-requires
-first-requires c κs = tt
+first-object-sets-requires : tie.Need-first-object-sets-requires
+first-object-sets-requires c κs = tt
 
 read-requires : tie.Need-read-requires
 read-requires c κs = tt
@@ -24,21 +24,21 @@ terms-of-requires : tie.Need-terms-of-requires
 terms-of-requires c κs = asked-good (c .before .before .before .before .before .before .before .before .before .pre
     .bytes) (c .before .before .before .before .before .before .before .before .before .pre .isRead) (c .before
     .before .before .before .before .before .before .before .before .pre .goodBook) (c .before .before .before
-    .before .before .before .before .before .before .args .query .now) (c .before .before .before .before .first
+    .before .before .before .before .before .before .args .query .now) (c .before .before .before .before .first-object-sets
     .ensures) (c .before .before .before .read .ensures) (c .before .before .before .before .before .before .before
     .before .before .pre .goodQuery)
 
 returns : tie.Need-returns
 returns c = kinds-found (c .before .before .before .before .before .before .before .before .before .before .before
-    .pre) (c .before .before .before .before .before .before .first .ensures) (c .before .before .before .before
+    .pre) (c .before .before .before .before .before .before .first-object-sets .ensures) (c .before .before .before .before
     .before .read .ensures) (c .before .terms-of .ensures)
 
 pub kinds-of-spec : {M : Type 1} → statement M
 kinds-of-spec =
     tie.close
     (tie.spec
-    slice-aggregate-first
-    first-requires
+    slice-aggregate-first-object-sets
+    first-object-sets-requires
     read-requires
     slice-aggregate-terms-of
     terms-of-requires

@@ -3,6 +3,7 @@
 use Prim.Native.Nat.{_-_}
 use mathlib.Core.Path.{sym, _∙_}
 use mathlib.Core.Logic.{⊎-elim}
+use Rattle.sets.specs.Sets.{OBJECTS}
 use Rattle.scheme.proofs.Loops.{AttributesSoFar, attributes-start, attributes-with, attributes-past}
 use Rattle.scheme.proofs.Loops.{attributes-end}
 use borrow.Author.Needs.{needs}
@@ -13,13 +14,13 @@ abbrev Inv-loop : tie.InvT-loop
 Inv-loop sets objects all₀ k₀ all k = AttributesSoFar sets objects k all
 
 abbrev μ-loop : tie.MeasureT-loop
-μ-loop sets objects all₀ k₀ all k = 32 - k
+μ-loop sets objects all₀ k₀ all k = OBJECTS - k
 
 loop-holds : tie.Need-loop-holds Inv-loop μ-loop
 loop-holds c = attributes-start _ _
 
-has-requires : tie.Need-has-requires Inv-loop μ-loop
-has-requires c κs = search needs
+has-object-requires : tie.Need-has-object-requires Inv-loop μ-loop
+has-object-requires c κs = search needs
 
 cast-union : tie.Need-cast-union Inv-loop μ-loop
 cast-union c = search needs
@@ -40,7 +41,7 @@ loop-less : tie.Need-loop-less Inv-loop μ-loop
 loop-less c = search needs
 
 loop-again : tie.Need-loop-again Inv-loop μ-loop
-loop-again c = ⊎-elim (λ w. attributes-with (c .before .before .before .loop .inv) (c .before .before .loop-test .taken) (c .if1 .all) (sym (c .before .has .ensures) ∙ w .0 .taken) (w .3 ∙ w .2 .ensures)) (λ w. attributes-past (c .before .before .before .loop .inv) (c .before .before .loop-test .taken) (c .if1 .all) (sym (c .before .has .ensures) ∙ w .0 .left) (w .1)) (c .if1 .came)
+loop-again c = ⊎-elim (λ w. attributes-with (c .before .before .before .loop .inv) (c .before .before .loop-test .taken) (c .if1 .all) (sym (c .before .has-object .ensures) ∙ w .0 .taken) (w .3 ∙ w .2 .ensures)) (λ w. attributes-past (c .before .before .before .loop .inv) (c .before .before .loop-test .taken) (c .if1 .all) (sym (c .before .has-object .ensures) ∙ w .0 .left) (w .1)) (c .if1 .came)
 
 returns : tie.Need-returns Inv-loop μ-loop
 returns c = attributes-end (c .before .loop .inv) (c .loop-test .left)
@@ -52,7 +53,7 @@ attributes-of-spec =
     Inv-loop
     μ-loop
     loop-holds
-    has-requires
+    has-object-requires
     cast-union
     mul-union
     shared-slice-read-union

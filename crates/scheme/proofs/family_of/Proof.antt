@@ -5,26 +5,28 @@ use mathlib.Core.Path.{refl, sym, _∙_}
 use mathlib.Core.Logic.{⊎-elim}
 use native.Mathlib.Omega.{arith}
 use lib.ListN.{getD}
+use Rattle.sets.specs.Sets.{OBJECTS}
 use Rattle.reduction.specs.Packed.{padded}
 use Rattle.scheme.specs.Growing.{familyOf}
 use Rattle.scheme.proofs.Loops.{MembersSoFar, members-start, members-room, members-with, members-past}
 use Rattle.scheme.proofs.Loops.{members-end}
+use Rattle.scheme.proofs.Packing.{listing-packed}
 use borrow.Author.Needs.{needs}
 use Rattle.scheme.proofs.family_of.Statement.{statement}
 use Rattle.scheme.proofs.family_of.Tie as tie
 
 abbrev Inv-loop : tie.InvT-loop
-Inv-loop sets objects out₀ count₀ k₀ out count k = MembersSoFar (λ j. getD sets j 0) objects k count out
+Inv-loop sets objects out₀ count₀ k₀ out count k = MembersSoFar OBJECTS (λ j. getD sets j 0) objects k count out
 
 abbrev μ-loop : tie.MeasureT-loop
-μ-loop sets objects out₀ count₀ k₀ out count k = 32 - k
+μ-loop sets objects out₀ count₀ k₀ out count k = OBJECTS - k
 
 loop-holds : tie.Need-loop-holds Inv-loop μ-loop
 unfolding padded
-loop-holds c = members-start _ _ _ refl
+loop-holds c = members-start _ _ _ _ (omega arith) refl
 
-has-requires : tie.Need-has-requires Inv-loop μ-loop
-has-requires c κs = search needs
+has-object-requires : tie.Need-has-object-requires Inv-loop μ-loop
+has-object-requires c κs = search needs
 
 cast-out : tie.Need-cast-out Inv-loop μ-loop
 cast-out c = search needs
@@ -51,11 +53,11 @@ loop-less : tie.Need-loop-less Inv-loop μ-loop
 loop-less c = search needs
 
 loop-again : tie.Need-loop-again Inv-loop μ-loop
-loop-again c = ⊎-elim (λ w. members-with (c .before .before .before .loop .inv) (c .before .before .loop-test .taken) _ (sym (c .before .has .ensures) ∙ w .0 .taken) refl (w .2) (w .3)) (λ w. members-past (c .before .before .before .loop .inv) (c .before .before .loop-test .taken) (sym (c .before .has .ensures) ∙ w .0 .left) (w .1) (w .2)) (c .if1 .came)
+loop-again c = ⊎-elim (λ w. members-with (c .before .before .before .loop .inv) (c .before .before .loop-test .taken) _ (sym (c .before .has-object .ensures) ∙ w .0 .taken) refl (w .2) (w .3)) (λ w. members-past (c .before .before .before .loop .inv) (c .before .before .loop-test .taken) (sym (c .before .has-object .ensures) ∙ w .0 .left) (w .1) (w .2)) (c .if1 .came)
 
 returns : tie.Need-returns Inv-loop μ-loop
 unfolding familyOf
-returns c = members-end (c .before .loop .inv) (c .loop-test .left)
+returns c = listing-packed (members-end (c .before .loop .inv) (c .loop-test .left))
 
 pub family-of-spec : {M : Type 1} → statement M
 family-of-spec =
@@ -64,7 +66,7 @@ family-of-spec =
     Inv-loop
     μ-loop
     loop-holds
-    has-requires
+    has-object-requires
     cast-out
     mul-out
     shared-slice-read-out

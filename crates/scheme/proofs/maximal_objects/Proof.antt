@@ -10,7 +10,7 @@ use Rattle.scheme.proofs.maximal_objects.Lts as lts
 use Rattle.scheme.proofs.both_kinds.Reads as both-kinds-reads
 use Rattle.scheme.proofs.computed.Reads as computed-reads
 use Rattle.scheme.proofs.counting.Reads as counting-reads
-use Rattle.scheme.proofs.first.Reads as first-reads
+use Rattle.scheme.proofs.first_object_sets.Reads as first-object-sets-reads
 use Rattle.scheme.proofs.some_cyclic.Reads as some-cyclic-reads
 use Rattle.scheme.proofs.with_declared.Reads as with-declared-reads
 use Rattle.scheme.proofs.without_removed.Reads as without-removed-reads
@@ -21,24 +21,24 @@ computed-requires c κs = search needs
 counting-requires : tie.Need-counting-requires
 counting-requires c κs = search needs
 
-first-requires : tie.Need-first-requires
-first-requires c κs = search needs
+first-object-sets-requires : tie.Need-first-object-sets-requires
+first-object-sets-requires c κs = search needs
 
-first-requires-2 : tie.Need-first-requires-2
-first-requires-2 c κs = search needs
+first-object-sets-requires-2 : tie.Need-first-object-sets-requires-2
+first-object-sets-requires-2 c κs = search needs
 
 without-removed-requires : tie.Need-without-removed-requires
 without-removed-requires c κs =
     let s = c .before .before .before .before .before .before .before .before .before .before .args .t1 in
     found-few s (counted-list s (c .before .before .before .before .before .before .before .before .before .computed
     .ensures) (c .before .before .before .before .before .counting .ensures) (c .before .before .before .before
-    .first .ensures))
+    .first-object-sets .ensures))
 
 both-kinds-requires : tie.Need-both-kinds-requires
 both-kinds-requires c κs = search needs
 
-first-requires-3 : tie.Need-first-requires-3
-first-requires-3 c κs = search needs
+first-object-sets-requires-3 : tie.Need-first-object-sets-requires-3
+first-object-sets-requires-3 c κs = search needs
 
 with-declared-requires : tie.Need-with-declared-requires
 with-declared-requires c κs =
@@ -47,12 +47,12 @@ with-declared-requires c κs =
     let found = counted-list s (c .before .before .before .before .before .before .before .before .before .before
     .before .before .before .before .before .computed .ensures) (c .before .before .before .before .before .before
     .before .before .before .before .before .counting .ensures) (c .before .before .before .before .before .before
-    .before .before .before .before .first .ensures) in
-    rest-room s (rest-of s found (c .before .before .before .before .before .before .first2 .ensures) (c .before
-    .before .before .before .before .without-removed .ensures)) (search needs) (c .first3 .ensures)
+    .before .before .before .before .first-object-sets .ensures) in
+    rest-room s (rest-of s found (c .before .before .before .before .before .before .first-object-sets2 .ensures) (c .before
+    .before .before .before .before .without-removed .ensures)) (search needs) (c .first-object-sets3 .ensures)
 
-first-requires-4 : tie.Need-first-requires-4
-first-requires-4 c κs = search needs
+first-object-sets-requires-4 : tie.Need-first-object-sets-requires-4
+first-object-sets-requires-4 c κs = search needs
 
 some-cyclic-requires : tie.Need-some-cyclic-requires
 some-cyclic-requires c κs = search needs
@@ -66,14 +66,14 @@ returns c =
     .before .computed .ensures) (c .before .before .before .before .before .before .before .before .before .before
     .before .before .before .before .before .before .before .before .before .before .before .counting .ensures) (c
     .before .before .before .before .before .before .before .before .before .before .before .before .before .before
-    .before .before .before .before .before .before .first .ensures) in
+    .before .before .before .before .before .before .first-object-sets .ensures) in
     let rest = rest-of s found (c .before .before .before .before .before .before .before .before .before .before
-    .before .before .before .before .before .before .first2 .ensures) (c .before .before .before .before .before
+    .before .before .before .before .before .before .first-object-sets2 .ensures) (c .before .before .before .before .before
     .before .before .before .before .before .before .before .before .before .before .without-removed .ensures) in
     let all = all-of s rest (c .before .before .before .before .before .before .before .before .before .before
-    .first3 .ensures) (c .before .before .before .before .before .before .before .before .before .with-declared
+    .first-object-sets3 .ensures) (c .before .before .before .before .before .before .before .before .before .with-declared
     .ensures) in
-    let listed = all-list s all (search needs) (c .before .before .first4 .ensures) in
+    let listed = all-list s all (search needs) (c .before .before .first-object-sets4 .ensures) in
     returned s all (both-of s (c .before .before .before .before .before .before .before .before .before .before
     .before .before .before .before .both-kinds .ensures)) (cyclic-of s listed (c .before .some-cyclic .ensures))
 
@@ -83,12 +83,12 @@ maximal-objects-spec =
     (tie.spec
     computed-requires
     counting-requires
-    first-requires
-    first-requires-2
+    first-object-sets-requires
+    first-object-sets-requires-2
     without-removed-requires
     both-kinds-requires
-    first-requires-3
+    first-object-sets-requires-3
     with-declared-requires
-    first-requires-4
+    first-object-sets-requires-4
     some-cyclic-requires
     returns)

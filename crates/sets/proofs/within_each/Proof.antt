@@ -4,6 +4,7 @@
 use mathlib.Core.Path.{sym, _∙_}
 use mathlib.Core.Logic.{⊎-elim}
 use borrow.Author.Tests.{not-true, not-false}
+use Rattle.sets.specs.Sets.{ATTRIBUTES}
 use Rattle.sets.proofs.Bits.{in-out}
 use Rattle.sets.proofs.Sets.{yes-has, no-has}
 use borrow.Author.Needs.{needs}
@@ -17,7 +18,7 @@ abbrev Inv-loop : tie.InvT-loop
 Inv-loop s t k₀ k = EachSoFar s t k
 
 abbrev μ-loop : tie.MeasureT-loop
-μ-loop s t k₀ k = 32 - k
+μ-loop s t k₀ k = ATTRIBUTES - k
 
 loop-holds : tie.Need-loop-holds Inv-loop μ-loop
 loop-holds c = each-start _ _
