@@ -8,7 +8,7 @@
  * for its elements; two parts of one call do not overlap where one of them is written. No function keeps a pointer,
  * allocates, reads a file or calls back; two threads may call at once with parts of their own.
  *
- * Stack: the work memory of vingarbu_answer lies on the stack, 633 KB by the sizes of its arrays and a frame of about 1 KB
+ * Stack: the work memory of vingarbu_answer lies on the stack, 645 KB by the sizes of its arrays and a frame of about 1 KB
  * for each table of a join, 128 at most. Give the thread that calls it 1 MB.
  *
  * Link with the archive that `rt staticlib host` writes, target/staticlib/libhost.a (x86-64 Linux).

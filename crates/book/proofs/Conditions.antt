@@ -25,7 +25,7 @@ use Rattle.records.specs.Checks.{First}
 use Rattle.records.specs.declared.Record.{Record}
 use Rattle.records.specs.declared.Record.the-variants.{OfBook, OfQuery}
 use Rattle.records.specs.declared.BookRecord.the-variants.{Attribute, Object, Dependency, Row, Declared, Removed}
-use Rattle.records.specs.declared.BookRecord.the-variants.{ComparisonTable, OnlyDeclared}
+use Rattle.records.specs.declared.BookRecord.the-variants.{ComparisonTable, OnlyDeclared, DeclaredWide}
 use Rattle.records.proofs.Checks.{EachNumber, first-number, Same, Agree, ended, next, first-agrees, first-unique}
 use Rattle.records.proofs.Checks.{same-always, same-or}
 use Rattle.records.proofs.Checks.{same-or-three, same-lt, same-le, same-empty, same-has, same-absent, same-not-within}
@@ -158,6 +158,7 @@ agrees s (OfBook (Removed set)) = maximal-agrees s (s .maximal .removals) set
 agrees s (OfBook (ComparisonTable names lengths angles dates)) =
     next (same-le 1 (s .table .given)) (next (same-rules (masksOf names lengths angles dates)) ended)
 agrees s (OfBook OnlyDeclared) = ended
+agrees s (OfBook (DeclaredWide set)) = maximal-agrees s (s .maximal .declarations) set
 agrees s (OfQuery r) = next same-always ended
 
 -- ---- the first
@@ -196,6 +197,7 @@ between s (OfBook (Declared set)) = (four, (five, (seven, tt)))
 between s (OfBook (Removed set)) = (four, (five, (seven, tt)))
 between s (OfBook (ComparisonTable names lengths angles dates)) = (four, (inr refl, tt))
 between s (OfBook OnlyDeclared) = tt
+between s (OfBook (DeclaredWide set)) = (four, (five, (seven, tt)))
 between s (OfQuery r) = (two, tt)
 
 pub fault-between : (s : Scheme) (r : Record) → (faultOf s r ≡ 0 → ⊥) → RecordNumber (faultOf s r)

@@ -7,7 +7,7 @@ use mathlib.Core.Bool.{Bool, true, false, not, _||_}
 use mathlib.Core.List.{List, [], _∷_, _++_}
 use Prim.Native.Nat.{ℕ, _≤_, _<_}
 use native.Mathlib.Omega.{arith}
-use borrow.Author.Tests.{ne-eqb, ltb-false, leb-false, not-false}
+use borrow.Author.Tests.{eqb-true, ne-eqb, ltb-false, leb-false, not-false}
 use lib.Dec.{ltb, leb}
 use lib.ListN.{getD}
 use types.Run.{OneOf, miss}
@@ -24,15 +24,16 @@ use Rattle.records.specs.declared.Record.{Record}
 use Rattle.records.specs.declared.BookRecord.{BookRecord}
 use Rattle.records.specs.declared.Record.the-variants.{OfBook}
 use Rattle.records.specs.declared.BookRecord.the-variants.{Attribute, Object, Dependency, Row, Declared, Removed}
-use Rattle.records.specs.declared.BookRecord.the-variants.{ComparisonTable}
+use Rattle.records.specs.declared.BookRecord.the-variants.{ComparisonTable, DeclaredWide}
 use Rattle.records.proofs.Checks.{none-first}
+use Rattle.records.proofs.Records.{RowOrNot, aRow, anotherKind, row-or-not}
 use Rattle.scheme.specs.declared.Scheme.{Scheme}
 use Rattle.scheme.specs.Statements.{SomeObjects}
 use Rattle.sets.specs.Sets.{_∈_, _∉_, has, within, isEmpty, count, ATTRIBUTES, OBJECTS}
 use Rattle.sets.proofs.Tests.{no-or}
 use Rattle.sets.proofs.Sets.{yes-has, no-has, yes-within, no-isEmpty}
 use Rattle.book.specs.Faults.{wrongCells, rowChecks, maximalChecks, checks, faultOf}
-use Rattle.book.specs.Declaring.{declare}
+use Rattle.book.specs.Declaring.{declare, withMaximal, withDeclared, withRemoved}
 use Rattle.book.specs.Reading.{isRow, withRow, stopNumber}
 use Rattle.book.specs.WellFormed.{SomeAttributes}
 
@@ -139,6 +140,11 @@ pub declared-accepted : (s : Scheme) (set : ℕ) → faultOf s (OfBook (Declared
 unfolding faultOf checks
 declared-accepted s set e = maximal-accepted s (s .maximal .declarations) set e
 
+pub declaredWide-accepted : (s : Scheme) (set : ℕ) → faultOf s (OfBook (DeclaredWide set)) ≡ 0
+    → NewMaximal s (s .maximal .declarations) set
+unfolding faultOf checks
+declaredWide-accepted s set e = maximal-accepted s (s .maximal .declarations) set e
+
 pub removed-accepted : (s : Scheme) (set : ℕ) → faultOf s (OfBook (Removed set)) ≡ 0
     → NewMaximal s (s .maximal .removals) set
 unfolding faultOf checks
@@ -180,12 +186,39 @@ pub with-variant : (s : Scheme) {d : Scheme} {r q : BookRecord} → d ≡ declar
     → d ≡ declare s (OfBook r)
 with-variant s e p = e ∙ ap (λ (r : BookRecord). declare s (OfBook r)) (sym p)
 
+-- a set of kind 5 or 6 that the code has in 64 bits
+
+pub declared-fault : (s : Scheme) {n set wide : ℕ} → n ≡ firstOf (maximalChecks s (s .maximal .declarations) wide)
+    → wide ≡ set → n ≡ faultOf s (OfBook (Declared set))
+unfolding faultOf checks
+declared-fault s e w = e ∙ ap (λ (x : ℕ). firstOf (maximalChecks s (s .maximal .declarations) x)) w
+
+pub removed-fault : (s : Scheme) {n set wide : ℕ} → n ≡ firstOf (maximalChecks s (s .maximal .removals) wide)
+    → wide ≡ set → n ≡ faultOf s (OfBook (Removed set))
+unfolding faultOf checks
+removed-fault s e w = e ∙ ap (λ (x : ℕ). firstOf (maximalChecks s (s .maximal .removals) x)) w
+
+abbrev pub declared-by : Scheme → ℕ → Scheme
+declared-by s M = withMaximal s (withDeclared (s .maximal) M)
+
+abbrev pub removed-by : Scheme → ℕ → Scheme
+removed-by s M = withMaximal s (withRemoved (s .maximal) M)
+
 -- ---- rows: a record of another kind adds no position
 
 pub no-row-added : (rows : List ℕ) (r : Record) (at : ℕ) → (kindOf r ≡ 4 → ⊥) → withRow rows r at ≡ rows
 unfolding withRow isRow
 no-row-added rows r at n =
     ap (λ (b : Bool). elim b [ true ↦ rows ++ at ∷ [] | false ↦ rows ]) (ne-eqb (kindOf r) 4 n)
+
+-- a row adds nothing to the scheme
+pub row-declares-nothing : (s : Scheme) (r : Record) → isRow r ≡ true → s ≡ declare s r
+unfolding isRow declare
+row-declares-nothing s r y = by (row-or-not r) (eqb-true (kindOf r) 4 y)
+  where
+    by : {r : Record} → RowOrNot r → kindOf r ≡ 4 → s ≡ declare s r
+    by (aRow object c0 c1 c2 c3 c4 c5) e = refl
+    by (anotherKind n) e = absurd (n e)
 
 -- ---- bodies cut short
 

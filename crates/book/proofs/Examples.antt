@@ -21,7 +21,7 @@ use Rattle.records.specs.Walking.{shortNumber, walkFrom, walk}
 use Rattle.records.specs.declared.BookRecord.{BookRecord}
 use Rattle.records.specs.declared.Record.the-variants.{OfBook}
 use Rattle.records.specs.declared.BookRecord.the-variants.{Attribute, Object, Dependency, Row, Declared, Removed}
-use Rattle.records.specs.declared.BookRecord.the-variants.{ComparisonTable, OnlyDeclared}
+use Rattle.records.specs.declared.BookRecord.the-variants.{ComparisonTable, OnlyDeclared, DeclaredWide}
 use Rattle.records.specs.declared.QueryRecord.the-variants.{Item}
 use Rattle.relation.specs.Tables.{cellOf, Table}
 use Rattle.scheme.specs.declared.Scheme.{Scheme}
@@ -77,6 +77,14 @@ unfoldable pub eight : List BookRecord
 eight =
     angles
     ++ Declared 1 ∷ Declared 1 ∷ Declared 1 ∷ Declared 1 ∷ Declared 1 ∷ Declared 1 ∷ Declared 1 ∷ Declared 1 ∷ []
+
+-- request 9: attributes 0 to 3, names; objects 31 {0, 1}, 32 {1, 2}, 63 {2, 3}, which grow into {31, 32} and {63} where 1
+-- determines 2
+unfoldable pub far : List BookRecord
+far = Attribute 0 0 ∷ Attribute 1 0 ∷ Attribute 2 0 ∷ Attribute 3 0 ∷ Object 31 3 ∷ Object 32 6 ∷ Object 63 12 ∷ []
+
+unfoldable pub grownFar : List BookRecord
+grownFar = far ++ Dependency 2 4 ∷ []
 
 -- one record or two of each kind that declares something: attributes of all four value kinds, not in order
 unfoldable pub mixed : List BookRecord
@@ -144,10 +152,31 @@ trials =
     ∷ record { gives = book (ComparisonTable 3 16128 131072 1056964608 ∷ []); says = 20 ∷ 0 ∷ [] }
     ∷ record { gives = book (ComparisonTable 3 16128 196608 1040187392 ∷ []); says = 20 ∷ 0 ∷ [] }
     ∷ record { gives = result (13 ∷ 3 ∷ 0 ∷ 0 ∷ 0 ∷ []); says = 3 ∷ 0 ∷ [] }  -- a table cut short
+    -- request 9: objects over 31, each alone, and grown; declared together by kind 15
+    ∷ record { gives = book far; says = 0 ∷ 0 ∷ 2147483648 ∷ 4294967296 ∷ 9223372036854775808 ∷ [] }
+    ∷ record { gives = book grownFar; says = 0 ∷ 0 ∷ 6442450944 ∷ 9223372036854775808 ∷ [] }
+    ∷ record {
+      gives = book (grownFar ++ DeclaredWide 9223372043297226752 ∷ []);
+      says = 0 ∷ 0 ∷ 6442450944 ∷ 9223372036854775808 ∷ 9223372043297226752 ∷ [];
+    }
+    -- "the sets of kinds 5 and 6 name objects 0 to 31": the low half of a computed set is not that set
+    ∷ record { gives = book (grownFar ++ Removed 2147483648 ∷ []); says = 0 ∷ 0 ∷ 6442450944 ∷ 9223372036854775808 ∷ [] }
+    -- the same set by kind 5 and by kind 15 is one, under kind 14 too
+    ∷ record {
+      gives = book (far ++ OnlyDeclared ∷ Declared 2147483648 ∷ DeclaredWide 2147483648 ∷ []);
+      says = 0 ∷ 0 ∷ 2147483648 ∷ [];
+    }
+    -- an empty set, an object that is not declared, a body cut short
+    ∷ record { gives = book (far ++ DeclaredWide 0 ∷ []); says = 5 ∷ 0 ∷ [] }
+    ∷ record { gives = book (far ++ DeclaredWide 4611686018427387904 ∷ []); says = 7 ∷ 0 ∷ [] }
+    ∷ record { gives = result (15 ∷ 1 ∷ 0 ∷ 0 ∷ 0 ∷ 0 ∷ 0 ∷ 0 ∷ []); says = 3 ∷ 0 ∷ [] }
+    -- "shares its bound of 8": the ninth of both kinds, before 5; cut off
+    ∷ record { gives = book (eight ++ DeclaredWide 0 ∷ []); says = 4 ∷ 0 ∷ [] }
+    ∷ record { gives = result (bytesOfBook eight ++ 15 ∷ 1 ∷ []); says = 3 ∷ 0 ∷ [] }
     ∷ []
 
 pub trials-hold : map (λ t. t .gives) trials ≡ map (λ t. t .says) trials
-unfolding trials survey ring angles eight asBuiltIn ofClub result read afterLast lastFault lastNumber records walk
+unfolding trials survey ring far grownFar angles eight asBuiltIn ofClub result read afterLast lastFault lastNumber records walk
     walkFrom shortNumber withRow isRow maximalsOf declare withMaximal withTable withMasks withOnly withRemoved
     withDeclared withDependency
     withObject withAttribute nothingDeclared keepsRules everyBelow entryKeeps mirrored builtIn faultOf checks
@@ -158,16 +187,17 @@ unfolding trials survey ring angles eight asBuiltIn ofClub result read afterLast
     union missing inRange members rank isEmpty single _∖_ _∪_ _∩_ within has bit
 trials-hold = refl
 
--- ---- bounds: "64 dependencies; 8 records of kind 5 and 8 of kind 6"; "attribute, id 0..31"; "object 0..31"; "An
--- object has one to six attributes."; request 7: "at most one (else 4)"
+-- ---- bounds: "64 dependencies; 8 records of kind 5 and 8 of kind 6"; "attribute, id 0..31"; "An object has one
+-- to six attributes."; request 7: "at most one (else 4)"; request 9: "Object numbers run to 63 in kinds 2 and 4", "number
+-- 64 meets 5", kind 15 "shares its bound of 8"
 
--- a scheme with so many of each behind it: attributes 0 to 6, names; object 31 of attributes 0 to 5
+-- a scheme with so many of each behind it: attributes 0 to 6, names; objects 31 and 63, both of attributes 0 to 5
 unfoldable pub having : ℕ → ℕ → ℕ → ℕ → Scheme
 having dependencies declarations removals tables = record {
   kinds = replicate ATTRIBUTES 0;
   attributes = 127;
-  sets = replicate 31 0 ++ 63 ∷ [];
-  objects = 2147483648;
+  sets = replicate 31 0 ++ 63 ∷ replicate 31 0 ++ 63 ∷ [];
+  objects = 9223372039002259456;
   left = replicate 64 0;
   right = replicate 64 0;
   dependencies = dependencies;
@@ -193,18 +223,19 @@ unfoldable pub bounds : List (List ℕ)
 bounds =
     (behind 63 0 0 0 (Dependency 1 2) ∷ behind 64 0 0 0 (Dependency 1 2) ∷ [])
     ∷ (behind 0 7 0 0 (Declared 2147483648) ∷ behind 0 8 0 0 (Declared 2147483648) ∷ [])
+    ∷ (behind 0 7 0 0 (DeclaredWide 9223372036854775808) ∷ behind 0 8 0 0 (DeclaredWide 9223372036854775808) ∷ [])
     ∷ (behind 0 0 7 0 (Removed 2147483648) ∷ behind 0 0 8 0 (Removed 2147483648) ∷ [])
     ∷ (behind 0 0 0 0 asBuiltIn ∷ behind 0 0 0 1 asBuiltIn ∷ [])
     ∷ (inside (Attribute 31 0) ∷ inside (Attribute 32 0) ∷ [])
     ∷ (inside (Attribute 7 3) ∷ inside (Attribute 7 4) ∷ [])
     ∷ (inside (Object 0 1) ∷ inside (Object 0 0) ∷ [])
     ∷ (inside (Object 0 63) ∷ inside (Object 0 127) ∷ [])
-    ∷ (inside (Object 30 1) ∷ inside (Object 32 1) ∷ [])
-    ∷ (inside (Row 31 1 2 3 4 5 6) ∷ inside (Row 32 1 2 3 4 5 6) ∷ [])
+    ∷ (inside (Object 62 1) ∷ inside (Object 64 1) ∷ [])
+    ∷ (inside (Row 63 1 2 3 4 5 6) ∷ inside (Row 64 1 2 3 4 5 6) ∷ [])
     ∷ []
 
 pub bounds-hold : bounds
-    ≡ (0 ∷ 4 ∷ []) ∷ (0 ∷ 4 ∷ []) ∷ (0 ∷ 4 ∷ []) ∷ (0 ∷ 4 ∷ []) ∷ (0 ∷ 5 ∷ []) ∷ (0 ∷ 5 ∷ []) ∷ (0 ∷ 5 ∷ [])
+    ≡ (0 ∷ 4 ∷ []) ∷ (0 ∷ 4 ∷ []) ∷ (0 ∷ 4 ∷ []) ∷ (0 ∷ 4 ∷ []) ∷ (0 ∷ 4 ∷ []) ∷ (0 ∷ 5 ∷ []) ∷ (0 ∷ 5 ∷ []) ∷ (0 ∷ 5 ∷ [])
     ∷ (0 ∷ 5 ∷ []) ∷ (0 ∷ 5 ∷ []) ∷ (0 ∷ 5 ∷ []) ∷ []
 unfolding bounds having asBuiltIn builtIn faultOf checks maximalChecks rowChecks wrongCells someOutside someNonZero
     firstOf keepsRules everyBelow entryKeeps mirrored cellOf missing inRange members rank isEmpty single _∖_ _∪_ _∩_

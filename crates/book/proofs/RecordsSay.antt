@@ -29,7 +29,7 @@ use Rattle.records.specs.declared.Record.{Record}
 use Rattle.records.specs.declared.BookRecord.{BookRecord}
 use Rattle.records.specs.declared.Record.the-variants.{OfBook, OfQuery}
 use Rattle.records.specs.declared.BookRecord.the-variants.{Attribute, Object, Dependency, Row, Declared, Removed}
-use Rattle.records.specs.declared.BookRecord.the-variants.{ComparisonTable, OnlyDeclared}
+use Rattle.records.specs.declared.BookRecord.the-variants.{ComparisonTable, OnlyDeclared, DeclaredWide}
 use Rattle.records.specs.declared.Reading.the-variants.{Found}
 use Rattle.records.proofs.Fields.{field-drop}
 use Rattle.records.proofs.Records.{RowOrNot, aRow, anotherKind, row-or-not}
@@ -58,7 +58,7 @@ use Rattle.book.specs.RecordsSay.{TableSaid}
 use Rattle.book.proofs.Lists.{getD-zeros}
 use Rattle.book.proofs.Declaring.{NewAttribute, NewObject, NewDependency, NewMaximal, attribute-accepted}
 use Rattle.book.proofs.Declaring.{object-accepted, dependency-accepted, declared-accepted, removed-accepted}
-use Rattle.book.proofs.Declaring.{NewTable, table-accepted, no-row-added}
+use Rattle.book.proofs.Declaring.{NewTable, table-accepted, declaredWide-accepted, no-row-added}
 use Rattle.book.proofs.WellFormed.{take-more, pairs-more, accepted-well-formed}
 
 -- ---- one record more
@@ -145,9 +145,10 @@ module _ (r : Record) where
   unfolding kindOf
   no-dependency n d e = n (ap kindOf e)
 
-  no-declared : (kindOf r ≡ 5 → ⊥) → (M : ℕ) → SaysDeclared r M → ⊥
+  no-declared : (kindOf r ≡ 5 → ⊥) → (kindOf r ≡ 15 → ⊥) → (M : ℕ) → SaysDeclared r M → ⊥
   unfolding kindOf
-  no-declared n M e = n (ap kindOf e)
+  no-declared n w M (inl e) = n (ap kindOf e)
+  no-declared n w M (inr e) = w (ap kindOf e)
 
   no-removed : (kindOf r ≡ 6 → ⊥) → (M : ℕ) → SaysRemoved r M → ⊥
   unfolding kindOf
@@ -194,8 +195,9 @@ nothing-said = record {
 -- what a record says nothing of stays as it is; its kind is not the one of those records
 module _ (r : Record) {rs : List Record} where
   module _ {m : MaximalRecords} (v : MaximalSaid rs m) where
-    same-declared : (kindOf r ≡ 5 → ⊥) → Gathered SaysDeclared (rs ++ r ∷ []) (take (m .declarations) (m .declared))
-    same-declared n = gathered-same SaysDeclared r (no-declared r n) (v .declared)
+    same-declared : (kindOf r ≡ 5 → ⊥) → (kindOf r ≡ 15 → ⊥)
+        → Gathered SaysDeclared (rs ++ r ∷ []) (take (m .declarations) (m .declared))
+    same-declared n w = gathered-same SaysDeclared r (no-declared r n w) (v .declared)
 
     same-removed : (kindOf r ≡ 6 → ⊥) → Gathered SaysRemoved (rs ++ r ∷ []) (take (m .removals) (m .removed))
     same-removed n = gathered-same SaysRemoved r (no-removed r n) (v .removed)
@@ -207,9 +209,10 @@ module _ (r : Record) {rs : List Record} where
           (⊎-elim (λ p. p) (λ p. absurd (no-only r n (List·Memᴰ·eq-of-singleton p))) (List·Memᴰ·append-cases rs i)),
     )
 
-    same-maximal : (kindOf r ≡ 5 → ⊥) → (kindOf r ≡ 6 → ⊥) → (kindOf r ≡ 14 → ⊥) → MaximalSaid (rs ++ r ∷ []) m
-    same-maximal d x o = record {
-      declared = same-declared d;
+    same-maximal : (kindOf r ≡ 5 → ⊥) → (kindOf r ≡ 6 → ⊥) → (kindOf r ≡ 14 → ⊥) → (kindOf r ≡ 15 → ⊥)
+        → MaximalSaid (rs ++ r ∷ []) m
+    same-maximal d x o w = record {
+      declared = same-declared d w;
       removed = same-removed x;
       only = same-only o;
       declaredBehind = v .declaredBehind;
@@ -263,7 +266,7 @@ module _ {rs : List Record} {s : Scheme} (w : WellFormed s) (v : SchemeSaid rs s
         dependencies = same-dependencies r v (λ e. omega arith);
         leftBehind = v .leftBehind;
         rightBehind = v .rightBehind;
-        maximal = same-maximal r (v .maximal) (λ e. omega arith) (λ e. omega arith) (λ e. omega arith);
+        maximal = same-maximal r (v .maximal) (λ e. omega arith) (λ e. omega arith) (λ e. omega arith) (λ e. omega arith);
         comparisons = same-table r (λ e. omega arith) (v .comparisons);
       }
 
@@ -280,7 +283,7 @@ module _ {rs : List Record} {s : Scheme} (w : WellFormed s) (v : SchemeSaid rs s
         dependencies = same-dependencies r v (λ e. omega arith);
         leftBehind = v .leftBehind;
         rightBehind = v .rightBehind;
-        maximal = same-maximal r (v .maximal) (λ e. omega arith) (λ e. omega arith) (λ e. omega arith);
+        maximal = same-maximal r (v .maximal) (λ e. omega arith) (λ e. omega arith) (λ e. omega arith) (λ e. omega arith);
         comparisons = same-table r (λ e. omega arith) (v .comparisons);
       }
 
@@ -299,24 +302,27 @@ module _ {rs : List Record} {s : Scheme} (w : WellFormed s) (v : SchemeSaid rs s
             (gathered-more SaysDependency r (record { left = left; right = right }) refl (v .dependencies));
         leftBehind = zero-from-set (s .dependencies) (s .left) left (v .leftBehind);
         rightBehind = zero-from-set (s .dependencies) (s .right) right (v .rightBehind);
-        maximal = same-maximal r (v .maximal) (λ e. omega arith) (λ e. omega arith) (λ e. omega arith);
+        maximal = same-maximal r (v .maximal) (λ e. omega arith) (λ e. omega arith) (λ e. omega arith) (λ e. omega arith);
         comparisons = same-table r (λ e. omega arith) (v .comparisons);
       }
 
-  declared-said : (M : ℕ) → NewMaximal s (s .maximal .declarations) M
-      → SchemeSaid (rs ++ OfBook (Declared M) ∷ []) (withMaximal s (withDeclared (s .maximal) M))
-  unfolding withDeclared kindOf
-  declared-said M n =
-      let r = OfBook (Declared M) in
+  declared-said : (r : Record) (M : ℕ) → (kindOf r ≡ 5) ⊎ (kindOf r ≡ 15) → SaysDeclared r M
+      → NewMaximal s (s .maximal .declarations) M
+      → SchemeSaid (rs ++ r ∷ []) (withMaximal s (withDeclared (s .maximal) M))
+  unfolding withDeclared
+  declared-said r M k says n =
       let m = s .maximal in
-      says-maximal r v (λ e. omega arith) (λ e. omega arith) (λ e. omega arith) (λ e. omega arith)
+      let other : (x : ℕ) → (x ≡ 5 → ⊥) → (x ≡ 15 → ⊥) → kindOf r ≡ x → ⊥ =
+      λ x a b e. ⊎-elim (λ z. a (sym e ∙ z)) (λ z. b (sym e ∙ z)) k in
+      says-maximal r v (other 1 (λ e. omega arith) (λ e. omega arith)) (other 2 (λ e. omega arith) (λ e. omega arith))
+      (other 3 (λ e. omega arith) (λ e. omega arith)) (other 13 (λ e. omega arith) (λ e. omega arith))
       (record {
         declared =
             subst (Gathered SaysDeclared (rs ++ r ∷ []))
             (sym (take-more (m .declared) (m .declarations) M (omega (arith, n .room, w .arrays .maximal .declared))))
-            (gathered-more SaysDeclared r M refl (v .maximal .declared));
-        removed = same-removed r (v .maximal) (λ e. omega arith);
-        only = same-only r (v .maximal) (λ e. omega arith);
+            (gathered-more SaysDeclared r M says (v .maximal .declared));
+        removed = same-removed r (v .maximal) (other 6 (λ e. omega arith) (λ e. omega arith));
+        only = same-only r (v .maximal) (other 14 (λ e. omega arith) (λ e. omega arith));
         declaredBehind = zero-from-set (m .declarations) (m .declared) M (v .maximal .declaredBehind);
         removedBehind = v .maximal .removedBehind;
       })
@@ -329,7 +335,7 @@ module _ {rs : List Record} {s : Scheme} (w : WellFormed s) (v : SchemeSaid rs s
       let m = s .maximal in
       says-maximal r v (λ e. omega arith) (λ e. omega arith) (λ e. omega arith) (λ e. omega arith)
       (record {
-        declared = same-declared r (v .maximal) (λ e. omega arith);
+        declared = same-declared r (v .maximal) (λ e. omega arith) (λ e. omega arith);
         removed =
             subst (Gathered SaysRemoved (rs ++ r ∷ []))
             (sym (take-more (m .removed) (m .removals) M (omega (arith, n .room, w .arrays .maximal .removed))))
@@ -345,7 +351,7 @@ module _ {rs : List Record} {s : Scheme} (w : WellFormed s) (v : SchemeSaid rs s
       let r = OfBook OnlyDeclared in
       says-maximal r v (λ e. omega arith) (λ e. omega arith) (λ e. omega arith) (λ e. omega arith)
       (record {
-        declared = same-declared r (v .maximal) (λ e. omega arith);
+        declared = same-declared r (v .maximal) (λ e. omega arith) (λ e. omega arith);
         removed = same-removed r (v .maximal) (λ e. omega arith);
         only = (λ y. Memᴰ·append-right rs (List·Memᴰ·head refl), λ m. refl);
         declaredBehind = v .maximal .declaredBehind;
@@ -364,7 +370,7 @@ module _ {rs : List Record} {s : Scheme} (w : WellFormed s) (v : SchemeSaid rs s
         dependencies = same-dependencies r v (λ e. omega arith);
         leftBehind = v .leftBehind;
         rightBehind = v .rightBehind;
-        maximal = same-maximal r (v .maximal) (λ e. omega arith) (λ e. omega arith) (λ e. omega arith);
+        maximal = same-maximal r (v .maximal) (λ e. omega arith) (λ e. omega arith) (λ e. omega arith) (λ e. omega arith);
         comparisons =
             ownOne names lengths angles dates (Memᴰ·append-right rs (List·Memᴰ·head refl)) (omega (arith, n .room))
             refl;
@@ -380,21 +386,24 @@ module _ {rs : List Record} {s : Scheme} (w : WellFormed s) (v : SchemeSaid rs s
         dependencies = same-dependencies r v (λ e. omega arith);
         leftBehind = v .leftBehind;
         rightBehind = v .rightBehind;
-        maximal = same-maximal r (v .maximal) (λ e. omega arith) (λ e. omega arith) (λ e. omega arith);
+        maximal = same-maximal r (v .maximal) (λ e. omega arith) (λ e. omega arith) (λ e. omega arith) (λ e. omega arith);
         comparisons = same-table r (λ e. omega arith) (v .comparisons);
       }
 
   declare-said : (r : Record) → faultOf s r ≡ 0 → SchemeSaid (rs ++ r ∷ []) (declare s r)
-  unfolding declare faultOf checks firstOf
+  unfolding declare faultOf checks firstOf kindOf
   declare-said (OfBook (Attribute id kind)) f = attribute-said id kind (attribute-accepted s id kind f)
   declare-said (OfBook (Object number set)) f = object-said number set (object-accepted s number set f)
   declare-said (OfBook (Dependency left right)) f = dependency-said left right (dependency-accepted s left right f)
   declare-said (OfBook (Row object c0 c1 c2 c3 c4 c5)) f = row-adds-nothing object c0 c1 c2 c3 c4 c5
-  declare-said (OfBook (Declared set)) f = declared-said set (declared-accepted s set f)
+  declare-said (OfBook (Declared set)) f =
+      declared-said (OfBook (Declared set)) set (inl refl) (inl refl) (declared-accepted s set f)
   declare-said (OfBook (Removed set)) f = removed-said set (removed-accepted s set f)
   declare-said (OfBook (ComparisonTable names lengths angles dates)) f =
       table-replaced names lengths angles dates (table-accepted s names lengths angles dates f)
   declare-said (OfBook OnlyDeclared) f = only-said
+  declare-said (OfBook (DeclaredWide set)) f =
+      declared-said (OfBook (DeclaredWide set)) set (inr refl) (inr refl) (declaredWide-accepted s set f)
   -- no record of a query is accepted
   declare-said (OfQuery r) f = absurd (omega (arith, f))
 

@@ -22,7 +22,7 @@ use Rattle.records.specs.Walking.{none, one}
 use Rattle.records.specs.declared.Record.{Record}
 use Rattle.records.specs.declared.Record.the-variants.{OfBook, OfQuery}
 use Rattle.records.specs.declared.BookRecord.the-variants.{Attribute, Object, Dependency, Row, Declared, Removed}
-use Rattle.records.specs.declared.BookRecord.the-variants.{ComparisonTable, OnlyDeclared}
+use Rattle.records.specs.declared.BookRecord.the-variants.{ComparisonTable, OnlyDeclared, DeclaredWide}
 use Rattle.records.specs.declared.Reading.the-variants.{Found}
 use Rattle.records.proofs.Records.{RowOrNot, aRow, anotherKind, row-or-not}
 use Rattle.relation.specs.Tables as Tables
@@ -130,6 +130,8 @@ module _ {b : List ℕ} {s : Scheme} {at : ℕ} (v : WellFormed s) (w : RowAt b 
   after (OfBook (ComparisonTable names lengths angles dates)) f =
       record { object = w .object; cells = w .cells; reads = w .reads; declared = w .declared; ranged = w .ranged }
   after (OfBook OnlyDeclared) f =
+      record { object = w .object; cells = w .cells; reads = w .reads; declared = w .declared; ranged = w .ranged }
+  after (OfBook (DeclaredWide set)) f =
       record { object = w .object; cells = w .cells; reads = w .reads; declared = w .declared; ranged = w .ranged }
   after (OfQuery r) f = w
 

@@ -24,7 +24,9 @@ use Rattle.scheme.proofs.Theorems.{maximal-objects-are-the-list, cyclic-is-a-fa
 use Rattle.book.specs.Reading.{Outcome, read}
 use Rattle.book.specs.Accepting.{Accepted, AtLast, good}
 use Rattle.book.specs.Conditions.{conditions}
-use Rattle.book.specs.Statements.{FaultMeans, ReadExactly, StopsWith, NumberMeans, NineMeans, AcceptedSay}
+use Rattle.book.specs.Faults.{checks, faultOf}
+use Rattle.book.specs.Declaring.{declare}
+use Rattle.book.specs.Statements.{FaultMeans, KindFifteen, ReadExactly, StopsWith, NumberMeans, NineMeans, AcceptedSay}
 use Rattle.book.specs.Statements.{RowInBytes}
 use Rattle.book.specs.Statements.{SchemeWellFormed, MaximalObjectsRead, TablesOfBook, MaximalObjectsOfBook}
 use Rattle.book.specs.TablesOf.{tablesOf}
@@ -45,6 +47,10 @@ pub fault-means : (s : Scheme) (r : Record) → FaultMeans s r
 fault-means s r = record {
   exactly = λ n. (λ e. subst (First (conditions s r)) e (fault-first s r), λ f. first-fault s r f);
 }
+
+pub kind-fifteen : (s : Scheme) (M : ℕ) → KindFifteen s M
+unfolding faultOf checks declare
+kind-fifteen s M = record { fault = refl; adds = refl }
 
 -- ---- where reading stops
 

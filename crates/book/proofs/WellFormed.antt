@@ -21,7 +21,7 @@ use Rattle.records.specs.Walking.{none, one}
 use Rattle.records.specs.declared.Record.{Record}
 use Rattle.records.specs.declared.Record.the-variants.{OfBook, OfQuery}
 use Rattle.records.specs.declared.BookRecord.the-variants.{Attribute, Object, Dependency, Row, Declared, Removed}
-use Rattle.records.specs.declared.BookRecord.the-variants.{ComparisonTable, OnlyDeclared}
+use Rattle.records.specs.declared.BookRecord.the-variants.{ComparisonTable, OnlyDeclared, DeclaredWide}
 use Rattle.values.proofs.Table.{built-in-keeps}
 use Rattle.scheme.specs.declared.Scheme.{Scheme}
 use Rattle.scheme.specs.declared.MaximalRecords.{MaximalRecords}
@@ -41,6 +41,7 @@ use Rattle.book.specs.WellFormed.{SomeAttributes, ObjectSet, MaximalArra
 use Rattle.book.proofs.Lists.{changed, getD-zeros}
 use Rattle.book.proofs.Declaring.{NewAttribute, NewObject, NewDependency, NewMaximal, attribute-accepted}
 use Rattle.book.proofs.Declaring.{object-accepted, dependency-accepted, declared-accepted, removed-accepted}
+use Rattle.book.proofs.Declaring.{declaredWide-accepted}
 use Rattle.book.proofs.Declaring.{NewTable, table-accepted}
 
 -- ---- wider sets
@@ -331,6 +332,7 @@ declare-well-formed s (OfBook (Removed set)) v f = removed-well-formed v set (re
 declare-well-formed s (OfBook (ComparisonTable names lengths angles dates)) v f =
     table-well-formed v names lengths angles dates (table-accepted s names lengths angles dates f)
 declare-well-formed s (OfBook OnlyDeclared) v f = only-well-formed v
+declare-well-formed s (OfBook (DeclaredWide set)) v f = declared-well-formed v set (declaredWide-accepted s set f)
 declare-well-formed s (OfQuery r) v f = v
 
 pub accepted-well-formed : {b : List ℕ} {rs : List Record} {h : Held} {at : ℕ} → AcceptedAs b rs h at

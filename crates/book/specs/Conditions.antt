@@ -16,7 +16,7 @@ use Rattle.records.specs.Records.{masksOf}
 use Rattle.records.specs.declared.Record.{Record}
 use Rattle.records.specs.declared.Record.the-variants.{OfBook, OfQuery}
 use Rattle.records.specs.declared.BookRecord.the-variants.{Attribute, Object, Dependency, Row, Declared, Removed}
-use Rattle.records.specs.declared.BookRecord.the-variants.{ComparisonTable, OnlyDeclared}
+use Rattle.records.specs.declared.BookRecord.the-variants.{ComparisonTable, OnlyDeclared, DeclaredWide}
 use Rattle.relation.specs.Tables.{cellOf}
 use Rattle.scheme.specs.declared.Scheme.{Scheme}
 
@@ -80,5 +80,7 @@ conditions s (OfBook (ComparisonTable names lengths angles dates)) =
     ∷ ((TableRules (masksOf names lengths angles dates) → ⊥) gives 20)
     ∷ []
 conditions s (OfBook OnlyDeclared) = []
+-- request 9: "Kind 15 is kind 5 with an 8-byte set and shares its bound of 8"
+conditions s (OfBook (DeclaredWide set)) = maximalConditions s (s .maximal .declarations) set
 -- a kind of a query
 conditions s (OfQuery r) = (Unit {0} gives 2) ∷ []

@@ -11,7 +11,7 @@ use Rattle.records.specs.Records.{masksOf}
 use Rattle.records.specs.declared.Record.{Record}
 use Rattle.records.specs.declared.Record.the-variants.{OfBook, OfQuery}
 use Rattle.records.specs.declared.BookRecord.the-variants.{Attribute, Object, Dependency, Row, Declared, Removed}
-use Rattle.records.specs.declared.BookRecord.the-variants.{ComparisonTable, OnlyDeclared}
+use Rattle.records.specs.declared.BookRecord.the-variants.{ComparisonTable, OnlyDeclared, DeclaredWide}
 use Rattle.scheme.specs.declared.Scheme.{Scheme}
 use Rattle.scheme.specs.declared.MaximalRecords.{MaximalRecords}
 use Rattle.scheme.specs.declared.TableOfMasks.{TableOfMasks}
@@ -153,4 +153,5 @@ declare s (OfBook (Removed M)) = withMaximal s (withRemoved (s .maximal) M)
 declare s (OfBook (ComparisonTable names lengths angles dates)) =
     withTable s (withMasks (s .table) (masksOf names lengths angles dates))
 declare s (OfBook OnlyDeclared) = withMaximal s (withOnly (s .maximal))
+declare s (OfBook (DeclaredWide M)) = withMaximal s (withDeclared (s .maximal) M)
 declare s (OfQuery r) = s

@@ -15,7 +15,7 @@ use Rattle.records.specs.Records.{masksOf}
 use Rattle.records.specs.declared.Record.{Record}
 use Rattle.records.specs.declared.Record.the-variants.{OfBook, OfQuery}
 use Rattle.records.specs.declared.BookRecord.the-variants.{Attribute, Object, Dependency, Row, Declared, Removed}
-use Rattle.records.specs.declared.BookRecord.the-variants.{ComparisonTable, OnlyDeclared}
+use Rattle.records.specs.declared.BookRecord.the-variants.{ComparisonTable, OnlyDeclared, DeclaredWide}
 use Rattle.relation.specs.Tables.{cellOf}
 use Rattle.scheme.specs.declared.Scheme.{Scheme}
 
@@ -85,6 +85,8 @@ checks s (OfBook (ComparisonTable names lengths angles dates)) =
     ∷ []
 -- "Book kind 14, no body .. any number of them is one"
 checks s (OfBook OnlyDeclared) = []
+-- request 9: "Kind 15 is kind 5 with an 8-byte set and shares its bound of 8"
+checks s (OfBook (DeclaredWide set)) = maximalChecks s (s .maximal .declarations) set
 -- a kind of a query
 checks s (OfQuery r) = (true, 2) ∷ []
 

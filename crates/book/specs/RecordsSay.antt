@@ -4,7 +4,7 @@
 -- Assumes nothing.
 use mathlib.Core.Path.{_≡_}
 use mathlib.Core.Bool.{true}
-use mathlib.Core.Logic.{_↔_}
+use mathlib.Core.Logic.{_⊎_, _↔_}
 use mathlib.Core.List.{List, [], _∷_, List·Memᴰ}
 use Prim.Native.Nat.{ℕ, _+_, _≤_}
 use lib.ListN.{length, getD, take}
@@ -17,7 +17,7 @@ use Rattle.records.specs.declared.Record.{Record}
 use Rattle.records.specs.declared.BookRecord.{BookRecord}
 use Rattle.records.specs.declared.Record.the-variants.{OfBook}
 use Rattle.records.specs.declared.BookRecord.the-variants.{Attribute, Object, Dependency, Row, Declared, Removed}
-use Rattle.records.specs.declared.BookRecord.the-variants.{ComparisonTable, OnlyDeclared}
+use Rattle.records.specs.declared.BookRecord.the-variants.{ComparisonTable, OnlyDeclared, DeclaredWide}
 use Rattle.relation.specs.Tables as Tables
 use Rattle.scheme.specs.declared.Scheme.{Scheme}
 use Rattle.scheme.specs.declared.MaximalRecords.{MaximalRecords}
@@ -32,9 +32,9 @@ use Rattle.book.specs.TablesOf.{rowsOf}
 abbrev pub SaysDependency : Record → Dependencies.Dependency → Type 0
 SaysDependency r d = r ≡ OfBook (Dependency (d .left) (d .right))
 
--- "declared maximal object"
+-- "declared maximal object", by kind 5 or by kind 15: "Kind 15 is kind 5 with an 8-byte set" (request 9)
 abbrev pub SaysDeclared : Record → ℕ → Type 0
-SaysDeclared r M = r ≡ OfBook (Declared M)
+SaysDeclared r M = (r ≡ OfBook (Declared M)) ⊎ (r ≡ OfBook (DeclaredWide M))
 
 -- "computed maximal object to be removed"
 abbrev pub SaysRemoved : Record → ℕ → Type 0

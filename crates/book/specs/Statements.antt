@@ -14,6 +14,8 @@ use Rattle.reduction.specs.Kept.{acyclic}
 use Rattle.records.specs.Reader.{readAt}
 use Rattle.records.specs.Checks.{First}
 use Rattle.records.specs.declared.Record.{Record}
+use Rattle.records.specs.declared.Record.the-variants.{OfBook}
+use Rattle.records.specs.declared.BookRecord.the-variants.{Declared, DeclaredWide}
 use Rattle.records.specs.declared.Reading.the-variants.{Found}
 use Rattle.relation.specs.BookRows as BookRows
 use Rattle.relation.specs.Tables.{Row, Table, tableAt, family}
@@ -23,7 +25,7 @@ use Rattle.scheme.specs.Growing.{familyOf, attributesOf}
 use Rattle.scheme.specs.OfScheme.{dependenciesOf, declaredOf, removedOf, maximalOf}
 use Rattle.scheme.specs.Statements.{JoinsByTheRule, GrownInEveryOrder, ComputedList, SomeObjects, MaximalObjectList}
 use Rattle.book.specs.Faults.{faultOf}
-use Rattle.book.specs.Declaring.{nothingDeclared}
+use Rattle.book.specs.Declaring.{nothingDeclared, declare}
 use Rattle.book.specs.Reading.{Outcome, read}
 use Rattle.book.specs.Accepting.{Accepted, Faulty, AtLast, Stops}
 use Rattle.book.specs.Conditions.{conditions}
@@ -37,6 +39,12 @@ use Rattle.book.specs.RecordsSay.{SaysRow, SchemeSaid, RowsSaid, TableSa
 -- a number is given exactly if its condition holds and none before it does; 0 exactly if none holds
 pub record FaultMeans (s : Scheme) (r : Record) : Type 0 where
   pub exactly : (n : ℕ) → (faultOf s r ≡ n) ↔ First (conditions s r) n
+
+-- request 9: "Kind 15 is kind 5 with an 8-byte set and shares its bound of 8": one set of objects by either kind has the
+-- same fault and adds the same
+pub record KindFifteen (s : Scheme) (M : ℕ) : Type 0 where
+  pub fault : faultOf s (OfBook (DeclaredWide M)) ≡ faultOf s (OfBook (Declared M))
+  pub adds : declare s (OfBook (DeclaredWide M)) ≡ declare s (OfBook (Declared M))
 
 -- ---- where reading stops
 

@@ -13,7 +13,7 @@ use Rattle.records.specs.Reader.{readAt}
 use Rattle.records.specs.declared.Record.{Record}
 use Rattle.records.specs.declared.Record.the-variants.{OfBook, OfQuery}
 use Rattle.records.specs.declared.BookRecord.the-variants.{Attribute, Object, Dependency, Row, Declared, Removed}
-use Rattle.records.specs.declared.BookRecord.the-variants.{ComparisonTable, OnlyDeclared}
+use Rattle.records.specs.declared.BookRecord.the-variants.{ComparisonTable, OnlyDeclared, DeclaredWide}
 use Rattle.records.specs.declared.Reading.{Reading}
 use Rattle.records.specs.declared.Reading.the-variants.{Nothing, Unknown, Short, Found}
 use Rattle.relation.specs.Tables as Tables
@@ -33,6 +33,7 @@ cellsOf k (OfBook (Declared set)) = []
 cellsOf k (OfBook (Removed set)) = []
 cellsOf k (OfBook (ComparisonTable names lengths angles dates)) = []
 cellsOf k (OfBook OnlyDeclared) = []
+cellsOf k (OfBook (DeclaredWide set)) = []
 cellsOf k (OfQuery r) = []
 
 unfoldable pub rowOf : ℕ → Reading → List Tables.Row

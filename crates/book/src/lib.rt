@@ -73,7 +73,7 @@ fn wrong_cells(kinds: [u8; KINDS], set: AttributeSet, cells: [u32; 6]) -> bool
     some_outside(kinds, set, cells)
 }
 
-// The faults of kinds 1 to 6 and 13, each by the paper's order.
+// The faults of kinds 1 to 6, 13 and 15, each by the paper's order.
 fn attribute_fault(s: Scheme, id: u8, kind: u8) -> u8
     ensures { λ r. ⌜ r ≡ faultOf s (Record.OfBook (BookRecord.Attribute id kind)) ⌝ }
 {
@@ -196,8 +196,12 @@ fn book_fault(s: Scheme, r: BookRecord) -> u8
             c4,
             c5,
         } => { row_fault(s, object, [c0, c1, c2, c3, c4, c5]) }
-        BookRecord::Declared { set } => maximal_fault(s, s.maximal.declarations, set),
-        BookRecord::Removed { set } => maximal_fault(s, s.maximal.removals, set),
+        BookRecord::Declared { set } => maximal_fault(
+            s,
+            s.maximal.declarations,
+            numbers::long(set),
+        ),
+        BookRecord::Removed { set } => maximal_fault(s, s.maximal.removals, numbers::long(set)),
         BookRecord::ComparisonTable {
             names,
             lengths,
@@ -205,6 +209,7 @@ fn book_fault(s: Scheme, r: BookRecord) -> u8
             dates,
         } => { table_fault(s, names, lengths, angles, dates) }
         BookRecord::OnlyDeclared => 0,
+        BookRecord::DeclaredWide { set } => maximal_fault(s, s.maximal.declarations, set),
     }
 }
 
@@ -245,7 +250,7 @@ fn nothing_declared() -> Scheme
     }
 }
 
-// What kinds 1, 2, 3, 5, 6, 13 and 14 add to a scheme.
+// What kinds 1, 2, 3, 5, 6, 13, 14 and 15 add to a scheme.
 fn with_attribute(mut s: Scheme, id: u8, kind: u8) -> Scheme
     requires { ⌜ id < ATTRIBUTES ⌝ }
     ensures { λ r. ⌜ r ≡ withAttribute s id kind ⌝ }
@@ -337,8 +342,8 @@ fn declare_record(s: Scheme, r: BookRecord) -> Scheme
             c4: _,
             c5: _,
         } => s,
-        BookRecord::Declared { set } => with_declared(s, set),
-        BookRecord::Removed { set } => with_removed(s, set),
+        BookRecord::Declared { set } => with_declared(s, numbers::long(set)),
+        BookRecord::Removed { set } => with_removed(s, numbers::long(set)),
         BookRecord::ComparisonTable {
             names,
             lengths,
@@ -346,6 +351,7 @@ fn declare_record(s: Scheme, r: BookRecord) -> Scheme
             dates,
         } => { with_table(s, names, lengths, angles, dates) }
         BookRecord::OnlyDeclared => with_only(s),
+        BookRecord::DeclaredWide { set } => with_declared(s, set),
     }
 }
 
@@ -392,7 +398,8 @@ struct Walked {
     scheme: Scheme,
 }
 
-// Reads record after record; the positions of the rows go into the directory while there are cells for them.
+// Reads record after record; the positions of the rows go into the directory while there are cells for them. A row adds
+// nothing to the scheme, which is not copied for it.
 fn walk(bytes: &[u8], directory: &mut [u32]) -> Walked
     requires { ⌜ length (now bytes) ≤ 65536 ⌝ }
     ensures { λ r. ⌜ r ≡ walkedOf (records (now (bytes .entry))) ⌝ }
@@ -423,8 +430,9 @@ fn walk(bytes: &[u8], directory: &mut [u32]) -> Walked
                 directory[rows] = at as u32;
             }
             rows += 1;
+        } else {
+            scheme = declare(scheme, r);
         }
-        scheme = declare(scheme, r);
         at = next;
     }
 }

@@ -19,7 +19,7 @@ use Rattle.records.specs.Checks.{firstOf}
 use Rattle.records.specs.Walking.{shortNumber, walkFrom, walk}
 use Rattle.records.specs.declared.BookRecord.{BookRecord}
 use Rattle.records.specs.declared.QueryRecord.{QueryRecord}
-use Rattle.records.specs.declared.BookRecord.the-variants.{Attribute, Object, Row, ComparisonTable}
+use Rattle.records.specs.declared.BookRecord.the-variants.{Attribute, Object, Row, ComparisonTable, DeclaredWide}
 use Rattle.records.specs.declared.QueryRecord.the-variants.{Item, CompareTwo, CompareConstant, End}
 use Rattle.reduction.specs.Kept.{union, around, someHolds, removable, stays, staying, settle, left, acyclic}
 use Rattle.reduction.specs.Kept.{goesFor, goes, keeps, keptOf, kept}
@@ -38,7 +38,7 @@ use Rattle.book.specs.Declaring.{withMaximal, withTable, withOnly, withMasks, d
 use Rattle.book.specs.Reading.{isRow, withRow, records, lastNumber, lastFault, afterLast, read}
 use Rattle.book.specs.TablesOf as Tables
 use Rattle.book.specs.TablesOf.{tablesOf}
-use Rattle.book.proofs.Examples.{survey, ring}
+use Rattle.book.proofs.Examples.{survey, ring, far}
 use Rattle.query.specs.Asking.{itemOf, itemsOf, comparisonOf, comparisonsOf, nameOf, namesOf, naming, attributesNamed}
 use Rattle.query.specs.Asking.{filled, askedOf}
 use Rattle.query.specs.Faults as Queries
@@ -71,6 +71,14 @@ unfoldable pub twoObjects : List BookRecord
 twoObjects =
     Attribute 0 0 ∷ Attribute 1 0 ∷ Attribute 2 0 ∷ Object 0 3 ∷ Object 1 6
     ∷ Row 0 1 20 0 0 0 0 ∷ Row 0 2 30 0 0 0 0 ∷ Row 1 10 5 0 0 0 0 ∷ Row 1 20 6 0 0 0 0 ∷ []
+
+-- objects 31 {0, 1}, 32 {1, 2} and 63 {2, 3}, declared as one maximal object, with rows that join under 1 and 2
+unfoldable pub farRows : List BookRecord
+farRows =
+    far
+    ++ DeclaredWide 9223372043297226752
+    ∷ Row 31 1 10 0 0 0 0 ∷ Row 31 2 20 0 0 0 0 ∷ Row 32 10 100 0 0 0 0 ∷ Row 32 20 200 0 0 0 0
+    ∷ Row 63 100 7 0 0 0 0 ∷ Row 63 200 8 0 0 0 0 ∷ Row 63 300 9 0 0 0 0 ∷ []
 
 -- a length beside a date, over a table that allows all six operators between the two: -5 and 3, 7 and 3
 unfoldable pub beside : List BookRecord
@@ -207,10 +215,15 @@ rowTrials =
       gives = rows twoObjects (Item 0 1 ∷ []);
       says = (10 ∷ []) ∷ (20 ∷ []) ∷ (30 ∷ []) ∷ [];
     }
+    -- request 9: objects 31, 32 and 63, which kind 15 declares together
+    ∷ record {
+      gives = rows farRows (Item 0 0 ∷ Item 0 3 ∷ []);
+      says = (1 ∷ 7 ∷ []) ∷ (2 ∷ 8 ∷ []) ∷ [];
+    }
     ∷ []
 
 pub rows-hold : map (λ t. t .gives) rowTrials ≡ map (λ t. t .says) rowTrials
-unfolding rowTrials rows beside withTable withMasks keepsRules entryKeeps everyBelow mirrored twoObjects lengths
+unfolding rowTrials rows beside withTable withMasks keepsRules entryKeeps everyBelow mirrored twoObjects farRows far lengths
     withEmpty survey
     ring spaceAfter answerOf refused number spaceNumber rowsAnswered answerRows itemKinds choices inFront rowsFor cellsOf
     allTrue isTrue rightCell itemCells Answers.rowsChosen connection parts withRows Sorted.cellsOf insertRows insertRow

@@ -24,6 +24,13 @@ pub fn index(x: u32) -> usize
     x as usize
 }
 
+// A number of 32 bits as one of 64.
+pub fn long(x: u32) -> u64
+    ensures { λ r. ⌜ (r ≡ x) × (r < 2 ^ 32) ⌝ }
+{
+    x as u64
+}
+
 // A number that a byte holds, as that byte.
 pub fn byte(x: usize) -> u8
     requires { ⌜ x < 256 ⌝ }

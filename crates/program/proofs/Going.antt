@@ -17,8 +17,8 @@ use Rattle.run.proofs.Theorems.{step-inside}
 pub record Going (input space extents layout pools spare out : List ℕ) (at serial : ℕ) : Type 0 where
   pub inside : at ≤ length input
   pub cells : length space ≡ 8192
-  pub levels : length extents ≡ 512
-  pub columns : length layout ≡ 4096
+  pub levels : length extents ≡ 1024
+  pub columns : length layout ≡ 8192
   pub rows : length pools ≡ 60480
   pub sorting : length spare ≡ 15120
   pub text : length out ≡ 98327
@@ -29,13 +29,13 @@ pub record Going (input space extents layout pools spare out : List ℕ) (at ser
 pub zeros-long : (n : ℕ) → length (replicate {A = ℕ} n 0) ≡ n
 zeros-long n = length-replicate n 0
 
-pub going-at-first : (input : List ℕ) → Going input (replicate 8192 0) (replicate 512 0) (replicate 4096 0)
+pub going-at-first : (input : List ℕ) → Going input (replicate 8192 0) (replicate 1024 0) (replicate 8192 0)
     (replicate 60480 0) (replicate 15120 0) (replicate 98327 0) 0 0
 going-at-first input = record {
   inside = omega arith;
   cells = zeros-long 8192;
-  levels = zeros-long 512;
-  columns = zeros-long 4096;
+  levels = zeros-long 1024;
+  columns = zeros-long 8192;
   rows = zeros-long 60480;
   sorting = zeros-long 15120;
   text = zeros-long 98327;

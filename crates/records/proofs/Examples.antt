@@ -12,6 +12,7 @@ use Rattle.records.specs.declared.Record.{Record}
 use Rattle.records.specs.declared.Record.the-variants.{OfBook, OfQuery}
 use Rattle.records.specs.declared.BookRecord.the-variants.{Attribute, Object, Dependency, Row, Declared}
 use Rattle.records.specs.declared.BookRecord.the-variants.{Removed, ComparisonTable, OnlyDeclared}
+use Rattle.records.specs.declared.BookRecord.the-variants.{DeclaredWide}
 use Rattle.records.specs.declared.QueryRecord.the-variants.{Item, CompareTwo, CompareConstant, End}
 use Rattle.records.specs.declared.Reading.the-variants.{Found}
 
@@ -49,6 +50,11 @@ examples =
     }
     -- request 8: "only declared maximal objects count"
     ∷ record { content = OfBook OnlyDeclared; says = 14 ∷ [] }
+    -- request 9: "kind 5 with an 8-byte set"
+    ∷ record {
+      content = OfBook (DeclaredWide 578437695752307201);
+      says = 15 ∷ 1 ∷ 2 ∷ 3 ∷ 4 ∷ 5 ∷ 6 ∷ 7 ∷ 8 ∷ [];
+    }
     -- "variable, attribute"
     ∷ record { content = OfQuery (Item 2 12); says = 7 ∷ 2 ∷ 12 ∷ [] }
     -- "variable, attribute, operator, variable, attribute"

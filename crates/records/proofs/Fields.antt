@@ -75,6 +75,27 @@ pub field-four : (s : List ℕ) (at b0 b1 b2 b3 : ℕ)
 field-four s at b0 b1 b2 b3 e0 e1 e2 e3 =
     simp (e0, e1, e2, e3, field-suc 3, field-suc 2, field-suc 1, field-one, add-assoc)
 
+pub field-eight : (s : List ℕ) (at low high : ℕ) → low ≡ field 4 s at → high ≡ field 4 s (at + 4)
+    → low + 4294967296 * high ≡ field 8 s at
+field-eight s at low high e0 e1 =
+    omega (
+      arith,
+      e0,
+      e1,
+      field-suc 7 s at,
+      field-suc 6 s (at + 1),
+      field-suc 5 s (at + 1 + 1),
+      field-suc 4 s (at + 1 + 1 + 1),
+      field-suc 3 s at,
+      field-suc 2 s (at + 1),
+      field-suc 1 s (at + 1 + 1),
+      field-one s (at + 1 + 1 + 1),
+      ap (field 4 s) (add-ones at),
+    )
+  where
+    add-ones : (n : ℕ) → n + 4 ≡ n + 1 + 1 + 1 + 1
+    add-ones n = omega arith
+
 -- A field of the bytes from position b on is a field of all of them.
 pub field-drop : (w : ℕ) (s : List ℕ) (b j : ℕ) → field w (drop b s) j ≡ field w s (b + j)
 unfolding field

@@ -24,37 +24,38 @@ use Rattle.records.specs.declared.QueryRecord.{QueryRecord}
 use Rattle.records.specs.declared.Record.the-variants.{OfBook, OfQuery}
 use Rattle.records.specs.declared.BookRecord.the-variants.{Attribute, Object, Dependency, Row, Declared}
 use Rattle.records.specs.declared.BookRecord.the-variants.{Removed, ComparisonTable, OnlyDeclared}
+use Rattle.records.specs.declared.BookRecord.the-variants.{DeclaredWide}
 use Rattle.records.specs.declared.QueryRecord.the-variants.{Item, CompareTwo, CompareConstant, End}
 use Rattle.records.proofs.Fields.{value-bytes, bytes-field, field-drop, field-below}
 
 -- ---- kinds
 
 -- past the table there is none
-pub whose-past : (k : ℕ) → 15 ≤ k → whose k ≡ 0
+pub whose-past : (k : ℕ) → 16 ≤ k → whose k ≡ 0
 unfolding whose kinds
-whose-past k h = let past : 30 ≤ k * 2 = omega (arith, h) in List·getD-eq-default kinds 0 past
+whose-past k h = let past : 32 ≤ k * 2 = omega (arith, h) in List·getD-eq-default kinds 0 past
 
-pub bodyLength-past : (k : ℕ) → 15 ≤ k → bodyLength k ≡ 0
+pub bodyLength-past : (k : ℕ) → 16 ≤ k → bodyLength k ≡ 0
 unfolding bodyLength kinds
-bodyLength-past k h = let past : 30 ≤ k * 2 + 1 = omega (arith, h) in List·getD-eq-default kinds 0 past
+bodyLength-past k h = let past : 32 ≤ k * 2 + 1 = omega (arith, h) in List·getD-eq-default kinds 0 past
 
-no-kind-past : (k : ℕ) → 15 ≤ k → isKind k ≡ false
+no-kind-past : (k : ℕ) → 16 ≤ k → isKind k ≡ false
 unfolding isKind
 no-kind-past k h = ap (λ (w : ℕ). not (eqb w 0)) (whose-past k h)
 
 -- What holds of each kind of the table holds of every kind.
-pub by-kind : (P : ℕ → Type 0) → P 1 → P 2 → P 3 → P 4 → P 5 → P 6 → P 7 → P 8 → P 9 → P 10 → P 13 → P 14
+pub by-kind : (P : ℕ → Type 0) → P 1 → P 2 → P 3 → P 4 → P 5 → P 6 → P 7 → P 8 → P 9 → P 10 → P 13 → P 14 → P 15
     → (k : ℕ) → isKind k ≡ true → P k
 unfolding isKind whose kinds
-by-kind P a b c d e f g h i j m l k kind = choose (lt-or-le k 15)
+by-kind P a b c d e f g h i j m l n k kind = choose (lt-or-le k 16)
   where
-    choose : (k < 15) ⊎ (15 ≤ k) → P k
+    choose : (k < 16) ⊎ (16 ≤ k) → P k
     choose (inr past) = absurd (false≢true (sym (no-kind-past k past) ∙ kind))
     choose (inl below) =
-        each-below (λ k. isKind k ≡ true → P k) 15
+        each-below (λ k. isKind k ≡ true → P k) 16
         ((λ y. absurd (false≢true y)), ((λ y. a), ((λ y. b), ((λ y. c), ((λ y. d), ((λ y. e), ((λ y. f),
         ((λ y. g), ((λ y. h), ((λ y. i), ((λ y. j), ((λ y. absurd (false≢true y)),
-        ((λ y. absurd (false≢true y)), ((λ y. m), ((λ y. l), tt)))))))))))))))
+        ((λ y. absurd (false≢true y)), ((λ y. m), ((λ y. l), ((λ y. n), tt))))))))))))))))
         k below kind
 
 -- a kind of a book, and of a query
@@ -66,20 +67,20 @@ pub query-kind : (k : ℕ) → ofQuery k ≡ true → isKind k ≡ true
 unfolding ofQuery isKind
 query-kind k y = ap (λ (w : ℕ). not (eqb w 0)) (eqb-true (whose k) 2 y)
 
-pub by-book : (P : ℕ → Type 0) → P 1 → P 2 → P 3 → P 4 → P 5 → P 6 → P 13 → P 14 → (k : ℕ) → ofBook k ≡ true → P k
+pub by-book : (P : ℕ → Type 0) → P 1 → P 2 → P 3 → P 4 → P 5 → P 6 → P 13 → P 14 → P 15 → (k : ℕ) → ofBook k ≡ true → P k
 unfolding ofBook whose kinds
-by-book P a b c d e f m l k y =
+by-book P a b c d e f m l n k y =
     by-kind (λ k. ofBook k ≡ true → P k) (λ y. a) (λ y. b) (λ y. c) (λ y. d) (λ y. e) (λ y. f)
     (λ y. absurd (false≢true y)) (λ y. absurd (false≢true y)) (λ y. absurd (false≢true y)) (λ y. absurd (false≢true y))
-    (λ y. m) (λ y. l) k (book-kind k y) y
+    (λ y. m) (λ y. l) (λ y. n) k (book-kind k y) y
 
 pub by-query : (P : ℕ → Type 0) → P 7 → P 8 → P 9 → P 10 → (k : ℕ) → ofQuery k ≡ true → P k
 unfolding ofQuery whose kinds
 by-query P a b c d k y =
     by-kind (λ k. ofQuery k ≡ true → P k) (λ y. absurd (false≢true y)) (λ y. absurd (false≢true y))
     (λ y. absurd (false≢true y)) (λ y. absurd (false≢true y)) (λ y. absurd (false≢true y)) (λ y. absurd (false≢true y))
-    (λ y. a) (λ y. b) (λ y. c) (λ y. d) (λ y. absurd (false≢true y)) (λ y. absurd (false≢true y)) k
-    (query-kind k y) y
+    (λ y. a) (λ y. b) (λ y. c) (λ y. d) (λ y. absurd (false≢true y)) (λ y. absurd (false≢true y))
+    (λ y. absurd (false≢true y)) k (query-kind k y) y
 
 -- a kind that is none of a book's is a query's
 pub other-kind : (k : ℕ) → isKind k ≡ true → ofBook k ≡ false → ofQuery k ≡ true
@@ -89,14 +90,14 @@ other-kind =
     (λ n. absurd (false≢true (sym n))) (λ n. absurd (false≢true (sym n)))
     (λ n. absurd (false≢true (sym n))) (λ n. absurd (false≢true (sym n)))
     (λ n. absurd (false≢true (sym n))) (λ n. refl) (λ n. refl) (λ n. refl) (λ n. refl)
-    (λ n. absurd (false≢true (sym n))) (λ n. absurd (false≢true (sym n)))
+    (λ n. absurd (false≢true (sym n))) (λ n. absurd (false≢true (sym n))) (λ n. absurd (false≢true (sym n)))
 
 -- the last kind of a book in the order of the code
 pub last-of-book : (k : ℕ) → ofBook k ≡ true → (k ≡ 1 → ⊥) → (k ≡ 2 → ⊥) → (k ≡ 3 → ⊥) → (k ≡ 4 → ⊥) → (k ≡ 5 → ⊥)
-    → (k ≡ 6 → ⊥) → (k ≡ 13 → ⊥) → k ≡ 14
-last-of-book k y a b c d e f m =
-    by-book (λ j. k ≡ j → k ≡ 14) (λ p. absurd (a p)) (λ p. absurd (b p)) (λ p. absurd (c p)) (λ p. absurd (d p))
-    (λ p. absurd (e p)) (λ p. absurd (f p)) (λ p. absurd (m p)) (λ p. p) k y refl
+    → (k ≡ 6 → ⊥) → (k ≡ 13 → ⊥) → (k ≡ 14 → ⊥) → k ≡ 15
+last-of-book k y a b c d e f m l =
+    by-book (λ j. k ≡ j → k ≡ 15) (λ p. absurd (a p)) (λ p. absurd (b p)) (λ p. absurd (c p)) (λ p. absurd (d p))
+    (λ p. absurd (e p)) (λ p. absurd (f p)) (λ p. absurd (m p)) (λ p. absurd (l p)) (λ p. p) k y refl
 
 pub last-of-query : (k : ℕ) → ofQuery k ≡ true → (k ≡ 7 → ⊥) → (k ≡ 8 → ⊥) → (k ≡ 9 → ⊥) → k ≡ 10
 last-of-query =
@@ -121,6 +122,7 @@ shape (OfBook (Declared set)) = record { kind = refl; split = refl; body = refl 
 shape (OfBook (Removed set)) = record { kind = refl; split = refl; body = refl }
 shape (OfBook (ComparisonTable names lengths angles dates)) = record { kind = refl; split = refl; body = refl }
 shape (OfBook OnlyDeclared) = record { kind = refl; split = refl; body = refl }
+shape (OfBook (DeclaredWide set)) = record { kind = refl; split = refl; body = refl }
 shape (OfQuery (Item variable attribute)) = record { kind = refl; split = refl; body = refl }
 shape (OfQuery (CompareTwo variable attribute operator variable2 attribute2)) =
     record { kind = refl; split = refl; body = refl }
@@ -142,6 +144,7 @@ of-book-kind (Declared set) = refl
 of-book-kind (Removed set) = refl
 of-book-kind (ComparisonTable names lengths angles dates) = refl
 of-book-kind OnlyDeclared = refl
+of-book-kind (DeclaredWide set) = refl
 
 pub of-query-kind : (r : QueryRecord) → ofQuery (kindOf (OfQuery r)) ≡ true
 unfolding kindOf ofQuery whose kinds
@@ -171,6 +174,7 @@ row-or-not (OfBook (Removed set)) = anotherKind {r = OfBook (Removed set)} (λ e
 row-or-not (OfBook (ComparisonTable names lengths angles dates)) =
     anotherKind {r = OfBook (ComparisonTable names lengths angles dates)} (λ e. omega (arith, e))
 row-or-not (OfBook OnlyDeclared) = anotherKind {r = OfBook OnlyDeclared} (λ e. omega (arith, e))
+row-or-not (OfBook (DeclaredWide set)) = anotherKind {r = OfBook (DeclaredWide set)} (λ e. omega (arith, e))
 row-or-not (OfQuery r) = anotherKind {r = OfQuery r} (no-row-of-a-query r)
 
 -- ---- the body of a record that was written, and a body written again
@@ -202,6 +206,7 @@ recordOf-written (OfBook (ComparisonTable names lengths angles dates)) q h =
     (value-bytes 4 angles (h .2) i)
     (value-bytes 4 dates (h .3) i))
 recordOf-written (OfBook OnlyDeclared) q h = refl
+recordOf-written (OfBook (DeclaredWide set)) q h = λ i. OfBook (DeclaredWide (value-bytes 8 set h i))
 recordOf-written (OfQuery (Item variable attribute)) q h =
     λ i. OfQuery (Item (value-bytes 1 variable (h .0) i) (value-bytes 1 attribute (h .1) i))
 recordOf-written (OfQuery (CompareTwo variable attribute operator variable2 attribute2)) q h =
@@ -246,12 +251,13 @@ bytesOf-recordOf b k given =
     (λ fits. refl)
     (λ fits. simp (first-field b given fits, next-field b given fits))
     (λ fits. refl)
+    (λ fits. simp (first-field b given fits))
     k
 
 pub kindOf-recordOf : (b : List ℕ) (k : ℕ) → isKind k ≡ true → kindOf (recordOf k b) ≡ k
 unfolding recordOf bodies kindOf
 kindOf-recordOf b = by-kind (λ k. kindOf (recordOf k b) ≡ k) refl refl refl refl refl refl refl refl refl refl refl
-    refl
+    refl refl
 
 -- A body of bytes gives fields that fit.
 pub inWidth-recordOf : (b : List ℕ) (k : ℕ) → AreBytes b → isKind k ≡ true → InWidth (recordOf k b)
@@ -272,6 +278,7 @@ inWidth-recordOf b k given =
     tt
     (wide 0, wide 4, wide 8, wide 12)
     tt
+    (field-below 8 b 0 given)
     k
 
 -- ---- each record at its place: the record of kind k whose body starts at position b of s, from the fields there
@@ -336,6 +343,11 @@ masks-are names lengths angles dates e0 e1 e2 e3 e4 e5 e6 e7 e8 e9 e10 e11 e12 e
 pub onlyDeclared-at : (s : List ℕ) (k b : ℕ) → k ≡ 14 → OfBook OnlyDeclared ≡ recordOf k (drop b s)
 unfolding recordOf bodies
 onlyDeclared-at s k b e = simp e
+
+pub declaredWide-at : (s : List ℕ) (k b set : ℕ) → k ≡ 15
+    → set ≡ field 8 s b → OfBook (DeclaredWide set) ≡ recordOf k (drop b s)
+unfolding recordOf bodies
+declaredWide-at s k b set e e0 = simp (e, e0, field-drop, add-zero)
 
 pub item-at : (s : List ℕ) (k b variable attribute : ℕ) → k ≡ 7
     → variable ≡ field 1 s b → attribute ≡ field 1 s (b + 1) → OfQuery (Item variable attribute) ≡ recordOf k (drop b s)

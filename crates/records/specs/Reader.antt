@@ -14,6 +14,7 @@ use Rattle.records.specs.declared.Record.{Record}
 use Rattle.records.specs.declared.Record.the-variants.{OfBook, OfQuery}
 use Rattle.records.specs.declared.BookRecord.the-variants.{Attribute, Object, Dependency, Row, Declared}
 use Rattle.records.specs.declared.BookRecord.the-variants.{Removed, ComparisonTable, OnlyDeclared}
+use Rattle.records.specs.declared.BookRecord.the-variants.{DeclaredWide}
 use Rattle.records.specs.declared.QueryRecord.the-variants.{Item, CompareTwo, CompareConstant, End}
 use Rattle.records.specs.declared.Reading.{Reading}
 use Rattle.records.specs.declared.Reading.the-variants.{Nothing, Unknown, Short, Found}
@@ -39,6 +40,7 @@ bodies =
     ∷ (λ b. OfQuery End)  -- 12
     ∷ (λ b. OfBook (ComparisonTable (field 4 b 0) (field 4 b 4) (field 4 b 8) (field 4 b 12)))
     ∷ (λ b. OfBook OnlyDeclared)
+    ∷ (λ b. OfBook (DeclaredWide (field 8 b 0)))
     ∷ []
 
 -- The record of kind k whose body b starts with.

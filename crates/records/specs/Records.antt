@@ -14,6 +14,7 @@ use Rattle.records.specs.declared.QueryRecord.{QueryRecord}
 use Rattle.records.specs.declared.Record.the-variants.{OfBook, OfQuery}
 use Rattle.records.specs.declared.BookRecord.the-variants.{Attribute, Object, Dependency, Row, Declared}
 use Rattle.records.specs.declared.BookRecord.the-variants.{Removed, ComparisonTable, OnlyDeclared}
+use Rattle.records.specs.declared.BookRecord.the-variants.{DeclaredWide}
 use Rattle.records.specs.declared.QueryRecord.the-variants.{Item, CompareTwo, CompareConstant, End}
 
 -- The table of kinds, two numbers for each byte from 0 on: whose kind it is (0 no one's, 1 a book's, 2 a query's), and
@@ -35,6 +36,7 @@ kinds =
     ∷ 0 ∷ 0  -- 12
     ∷ 1 ∷ 16  -- 13: 16 masks
     ∷ 1 ∷ 0  -- 14: none
+    ∷ 1 ∷ 8  -- 15: set of objects, in 8 bytes
     ∷ []
 
 -- Whose kind k is, and the bytes of its body; 0 for a number that is no kind.
@@ -62,6 +64,7 @@ kindOf (OfBook (Declared set)) = 5
 kindOf (OfBook (Removed set)) = 6
 kindOf (OfBook (ComparisonTable names lengths angles dates)) = 13
 kindOf (OfBook OnlyDeclared) = 14
+kindOf (OfBook (DeclaredWide set)) = 15
 kindOf (OfQuery (Item variable attribute)) = 7
 kindOf (OfQuery (CompareTwo variable attribute operator variable2 attribute2)) = 8
 kindOf (OfQuery (CompareConstant variable attribute operator cell)) = 9
@@ -82,6 +85,8 @@ bytesOf (OfBook (Declared set)) = 5 ∷ bytes 4 set
 bytesOf (OfBook (Removed set)) = 6 ∷ bytes 4 set
 bytesOf (OfBook (ComparisonTable names lengths angles dates)) = 13 ∷ masksOf names lengths angles dates
 bytesOf (OfBook OnlyDeclared) = 14 ∷ []
+-- "Kind 15 is kind 5 with an 8-byte set" (request 9)
+bytesOf (OfBook (DeclaredWide set)) = 15 ∷ bytes 8 set
 bytesOf (OfQuery (Item variable attribute)) = 7 ∷ bytes 1 variable ++ bytes 1 attribute
 bytesOf (OfQuery (CompareTwo variable attribute operator variable2 attribute2)) =
     8 ∷ bytes 1 variable ++ bytes 1 attribute ++ bytes 1 operator ++ bytes 1 variable2 ++ bytes 1 attribute2
@@ -101,12 +106,15 @@ bytesOfBook rs = bytesOfAll (map OfBook rs)
 abbrev pub bytesOfQuery : List QueryRecord → List ℕ
 bytesOfQuery rs = bytesOfAll (map OfQuery rs)
 
--- A single field is below 2 ^ 8, a set or a cell below 2 ^ 32.
+-- A single field is below 2 ^ 8, a set or a cell below 2 ^ 32, a set of objects in 8 bytes below 2 ^ 64.
 abbrev pub Small : ℕ → Type 0
 Small n = n < 2 ^ 8
 
 abbrev pub Wide : ℕ → Type 0
 Wide n = n < 2 ^ 32
+
+abbrev pub Long : ℕ → Type 0
+Long n = n < 2 ^ 64
 
 -- Each field of the record fits its bytes.
 unfoldable pub InWidth : Record → Type 0
@@ -119,6 +127,7 @@ InWidth (OfBook (Declared set)) = Wide set
 InWidth (OfBook (Removed set)) = Wide set
 InWidth (OfBook (ComparisonTable names lengths angles dates)) = Wide names × Wide lengths × Wide angles × Wide dates
 InWidth (OfBook OnlyDeclared) = Unit {0}
+InWidth (OfBook (DeclaredWide set)) = Long set
 InWidth (OfQuery (Item variable attribute)) = Small variable × Small attribute
 InWidth (OfQuery (CompareTwo variable attribute operator variable2 attribute2)) =
     Small variable × Small attribute × Small operator × Small variable2 × Small attribute2

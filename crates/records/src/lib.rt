@@ -6,11 +6,12 @@ ghost use lib.ListN.{length, drop};
 ghost use Rattle.records.specs.Fields.{field};
 ghost use Rattle.records.specs.Records.{whose, bodyLength, isKind, ofBook, ofQuery, kindOf, masksOf};
 ghost use Rattle.records.specs.Reader.{recordOf, readAt};
+use numbers::long;
 use numbers::place;
 use numbers::wide;
 
-// A record of a book, in the order of the paper's table: kinds 1 to 6, 13 and 14. A comparison table has a word for
-// each left kind, whose bytes are the masks of the right kinds, the lowest first.
+// A record of a book, in the order of the paper's table: kinds 1 to 6, 13, 14 and 15. A comparison table has a word
+// for each left kind, whose bytes are the masks of the right kinds, the lowest first.
 pub enum BookRecord {
     Attribute {
         id: u8,
@@ -46,6 +47,9 @@ pub enum BookRecord {
         dates: u32,
     },
     OnlyDeclared,
+    DeclaredWide {
+        set: u64,
+    },
 }
 
 // A record of a query: kinds 7 to 10.
@@ -90,8 +94,8 @@ pub enum Reading {
 
 // The table of kinds, two numbers for each byte from 0 on: whose kind it is (0 no one's, 1 a book's, 2 a query's), and the
 // length of its body.
-const KINDS: [u8; 30] = [
-    0, 0, 1, 2, 1, 5, 1, 8, 1, 25, 1, 4, 1, 4, 2, 2, 2, 5, 2, 7, 2, 0, 0, 0, 0, 0, 1, 16, 1, 0,
+const KINDS: [u8; 32] = [
+    0, 0, 1, 2, 1, 5, 1, 8, 1, 25, 1, 4, 1, 4, 2, 2, 2, 5, 2, 7, 2, 0, 0, 0, 0, 0, 1, 16, 1, 0, 1, 8,
 ];
 
 // The field of one byte at a position.
@@ -114,12 +118,22 @@ pub fn word_at(s: &[u8], at: usize) -> u32
     b0 + 256 * (b1 + 256 * (b2 + 256 * b3))
 }
 
+// The field of eight bytes at a position, the lowest first: a set of objects.
+pub fn long_at(s: &[u8], at: usize) -> u64
+    requires { ⌜ at + 8 ≤ length (now s) ⌝ }
+    ensures { λ r. ⌜ r ≡ field 8 (now (s .entry)) at ⌝ }
+{
+    let low = long(word_at(s, at));
+    let high = long(word_at(s, at + 4));
+    low + 4294967296 * high
+}
+
 // Whose kind a byte is: 0 no one's, 1 a book's, 2 a query's.
 fn whose(kind: u8) -> u8
     ensures { λ r. ⌜ r ≡ whose kind ⌝ }
 {
     let at: usize = place(kind) * 2;
-    if at < 30 { KINDS[at] } else { 0 }
+    if at < 32 { KINDS[at] } else { 0 }
 }
 
 // How many bytes the body of a kind has, the kind byte not counted.
@@ -127,7 +141,7 @@ pub fn body_length(kind: u8) -> usize
     ensures { λ r. ⌜ r ≡ bodyLength kind ⌝ }
 {
     let at: usize = place(kind) * 2 + 1;
-    if at < 30 { place(KINDS[at]) } else { 0 }
+    if at < 32 { place(KINDS[at]) } else { 0 }
 }
 
 // Whether a byte is a kind of the table; of a book; of a query.
@@ -175,6 +189,7 @@ fn kind_of_book(r: BookRecord) -> u8
             dates: _,
         } => 13,
         BookRecord::OnlyDeclared => 14,
+        BookRecord::DeclaredWide { set: _ } => 15,
     }
 }
 
@@ -299,7 +314,10 @@ fn book_record(s: &[u8], kind: u8, body: usize) -> BookRecord
             set: word_at(s, body),
         },
         13 => comparison_table(s, body),
-        _ => BookRecord::OnlyDeclared,
+        14 => BookRecord::OnlyDeclared,
+        _ => BookRecord::DeclaredWide {
+            set: long_at(s, body),
+        },
     }
 }
 

@@ -11,8 +11,8 @@ use native.Mathlib.Nat.{not-suc-le-zero, le-of-suc-le-suc, eq-or-lt-of-le, lt-tr
 use native.Mathlib.Omega.{arith}
 use lib.ListN.{getD}
 use lib.Pow.{pow-pos}
-use Rattle.sets.specs.Sets.{_∈_, _∉_, _⊆_, has, _∩_, insert, single, members, ATTRIBUTES, OBJECTS}
-use Rattle.sets.proofs.Tests.{yes-or-no, yes-no, and-yes, yes-and, or-left, or-right, yes-or}
+use Rattle.sets.specs.Sets.{_∈_, _∉_, _⊆_, has, within, _∩_, insert, single, members, ATTRIBUTES, OBJECTS}
+use Rattle.sets.proofs.Tests.{yes-or-no, yes-no, not-yes, and-yes, yes-and, or-left, or-right, yes-or}
 use Rattle.sets.proofs.Bits.{in-out, member-or-not, member-lt, lt-of-members}
 use Rattle.sets.proofs.Sets.{has-yes, yes-has, ∪-left, ∪-cases, single-in, in-single, insert-in, ⊆-refl, ⊆-trans}
 use Rattle.sets.proofs.Sets.{∩-in, ∩-left, ∩-right, ∩-mono, ∪-⊆}
@@ -23,6 +23,7 @@ use Rattle.reduction.proofs.Left.{union-⊇, in-union}
 use Rattle.scheme.specs.Dependencies.{Dependency, closure}
 use Rattle.scheme.specs.Growing.{familyOf, attributesOf, joins, NoneJoins, LeastGrown, Holding, ended, hold}
 use Rattle.scheme.specs.Growing.{holding, round, rounds, grown}
+use Rattle.scheme.specs.OfScheme.{NotJoined}
 use Rattle.scheme.specs.Statements.{Bounded, Shared, JoinsByTheRule, GrownInEveryOrder}
 use Rattle.scheme.proofs.Repeating.{Repeats, Grows, EndsIn, repeats-⊆, repeats-ends}
 use Rattle.scheme.proofs.Closing.{closure-least, closure-mono}
@@ -130,6 +131,20 @@ module _ (D : List Dependency) (sets : List ℕ) (objects : ℕ) where
         each = λ {k} i.
             holding-in H OBJECTS (member-lt OBJECTS h i) (or-left (has objects k && joins D sets H k) (has-yes i));
       }
+
+  -- who did not join in a round does not, as long as it shares no more
+  pub not-joined : (H : ℕ) {R before : ℕ} → R ≡ round D sets objects H → before ≡ attributesOf sets H
+      → NotJoined D sets objects R before
+  unfolding joins
+  not-joined H {R} {before} e b = record {
+    apart = λ k h i o.
+        not-yes
+        (λ y. in-out
+        (subst (λ (x : ℕ). k ∈ x) (sym e)
+        (holding-in H OBJECTS h
+        (or-right (has H k) (and-yes (has-yes i)
+        (ap (λ (x : ℕ). within (getD sets k 0) (closure D (getD sets k 0 ∩ x))) (sym b) ∙ y))))) o);
+  }
 
   round-lt : (H : ℕ) → H < 2 ^ OBJECTS → round D sets objects H < 2 ^ OBJECTS
   round-lt H h = lt-of-members (round D sets objects H) OBJECTS (λ k i. in-holding H OBJECTS i .0)

@@ -4,14 +4,14 @@
 use mathlib.Core.Path.{_≡_}
 use mathlib.Core.Bool.{Bool, true, false}
 use mathlib.Core.List.{List, [], _∷_}
-use Prim.Native.Nat.{ℕ, zero, suc, _+_, _≤_}
-use lib.ListN.{length, take}
-use Rattle.sets.specs.Sets.{OBJECTS}
+use Prim.Native.Nat.{ℕ, zero, suc, _+_, _≤_, _<_}
+use lib.ListN.{length, getD, take}
+use Rattle.sets.specs.Sets.{_∈_, _∉_, within, _∩_, OBJECTS}
 use Rattle.reduction.specs.Packed.{padded}
 use Rattle.scheme.specs.declared.Scheme.{Scheme}
 use Rattle.scheme.specs.declared.ObjectList.{ObjectList}
 use Rattle.scheme.specs.declared.MaximalList.{MaximalList}
-use Rattle.scheme.specs.Dependencies.{Dependency}
+use Rattle.scheme.specs.Dependencies.{Dependency, closure}
 use Rattle.scheme.specs.MaximalObjects.{computed, maximalObjects, bothKinds, someCyclic}
 
 -- ---- its lists and faults
@@ -52,6 +52,11 @@ cyclicOf s = someCyclic (s .sets) (maximalOf s)
 pub record Sides (n : ℕ) (left right : List ℕ) : Type 0 where
   pub leftThere : n ≤ length left
   pub rightThere : n ≤ length right
+
+-- each object that is declared and not held was asked with the attributes `before`, and did not join
+pub record NotJoined (D : List Dependency) (sets : List ℕ) (objects H before : ℕ) : Type 0 where
+  pub apart : (k : ℕ) → k < OBJECTS → k ∈ objects → k ∉ H
+      → within (getD sets k 0) (closure D (getD sets k 0 ∩ before)) ≡ false
 
 -- "8 records of kind 5": how many maximal objects a scheme can have, one computed for each object and those declared
 abbrev pub MAXIMALS : ℕ

@@ -2,7 +2,7 @@
 // left and right are the dependencies, place k of sets is the set of object k. The last two functions take a whole
 // scheme.
 ghost use mathlib.Core.Path.{_≡_};
-ghost use mathlib.Core.Bool.{not};
+ghost use mathlib.Core.Bool.{true, false, not};
 ghost use Prim.Native.Nat.{_≤_, _<_, min};
 ghost use lib.ListN.{length, take};
 ghost use Rattle.sets.specs.Sets.{within, _∩_, OBJECTS};
@@ -13,7 +13,7 @@ ghost use Rattle.scheme.specs.Growing.{familyOf, attributesOf, round, gr
 ghost use Rattle.scheme.specs.MaximalObjects.{allGrown, computed, isOne, removing, adding, bothKinds};
 ghost use Rattle.scheme.specs.MaximalObjects.{someCyclic};
 ghost use Rattle.scheme.specs.OfScheme.{pairs, Sides, listed, setsOf, HasRoom, computedOf, countingOf};
-ghost use Rattle.scheme.specs.OfScheme.{maximalListOf, MAXIMALS};
+ghost use Rattle.scheme.specs.OfScheme.{maximalListOf, MAXIMALS, NotJoined};
 use reduction::SetList;
 use sets::ATTRIBUTES;
 use sets::AttributeSet;
@@ -143,22 +143,32 @@ pub fn attributes_of(sets: &[AttributeSet], objects: ObjectSet) -> AttributeSet
     all
 }
 
-// Whether an object with set s has attributes which are determined by those it shares with the attributes held.
+// Whether an object with set s has attributes which are determined by those it shares with the attributes held. One that
+// was asked with the attributes `before`, and shares no more with those held now, did not join and does not.
 fn is_determined<'a>(
     left: &'a [AttributeSet],
     right: &'a [AttributeSet],
     n: usize,
     s: AttributeSet,
+    asked: bool,
+    before: AttributeSet,
     attributes: AttributeSet,
 ) -> bool
-    requires { ⌜ Sides n (now left) (now right) ⌝ }
+    requires { ⌜ (Sides n (now left) (now right))
+        × (asked ≡ true → within s (closure (pairs n (now left) (now right)) (s ∩ before)) ≡ false) ⌝ }
     ensures { λ r. ⌜ r ≡ within s (closure (pairs n (now (left .entry)) (now (right .entry))) (s ∩ attributes)) ⌝ }
 {
     let shared = sets::intersection(s, attributes);
+    if asked {
+        if sets::intersection(s, before) == shared {
+            return false;
+        }
+    }
     sets::within(s, closure(left, right, n, shared))
 }
 
-// One round: the objects that are held or can be held. The attributes held are found once.
+// One round: the objects that are held or can be held. The attributes held are found once. Where the objects were asked
+// in the round before, `before` is the attributes held then.
 fn round<'a>(
     left: &'a [AttributeSet],
     right: &'a [AttributeSet],
@@ -166,8 +176,11 @@ fn round<'a>(
     sets: &'a [AttributeSet],
     objects: ObjectSet,
     held: ObjectSet,
+    asked: bool,
+    before: AttributeSet,
 ) -> ObjectSet
-    requires { ⌜ (Sides n (now left) (now right)) × (OBJECTS ≤ length (now sets)) ⌝ }
+    requires { ⌜ (Sides n (now left) (now right)) × (OBJECTS ≤ length (now sets))
+        × (asked ≡ true → NotJoined (pairs n (now left) (now right)) (now sets) objects held before) ⌝ }
     ensures { λ r. ⌜ r ≡ round (pairs n (now (left .entry)) (now (right .entry))) (now (sets .entry)) objects held ⌝ }
 {
     let attributes = attributes_of(sets, held);
@@ -177,7 +190,7 @@ fn round<'a>(
         if sets::has_object(held, k) {
             next = sets::insert_object(next, k);
         } else if sets::has_object(objects, k) {
-            if is_determined(left, right, n, sets[k as usize], attributes) {
+            if is_determined(left, right, n, sets[k as usize], asked, before, attributes) {
                 next = sets::insert_object(next, k);
             }
         }
@@ -199,10 +212,12 @@ pub fn grow<'a>(
     ensures { λ r. ⌜ r ≡ grown (pairs n (now (left .entry)) (now (right .entry))) (now (sets .entry)) objects start ⌝ }
 {
     let mut held = sets::single_object(start);
-    let mut next = round(left, right, n, sets, objects, held);
+    let mut next = round(left, right, n, sets, objects, held, false, 0);
+    let mut before = attributes_of(sets, held);
     while next != held {
         held = next;
-        next = round(left, right, n, sets, objects, held);
+        next = round(left, right, n, sets, objects, held, true, before);
+        before = attributes_of(sets, held);
     }
     held
 }

@@ -1,8 +1,8 @@
 -- Sets of attributes and of objects as masks: "A *set* is 32 bits; bit k stands for attribute or object k."
 -- A set is a number, of any width: a width w stands only where members are counted or listed, as the members below w.
 -- In order: how many attributes and objects, membership, containment, intersection, union, difference, one member more
--- and one less, emptiness, rank and count, the lowest member, the list of members, the numbers that pass a test. Not here: which sets a book may have
--- (`scheme`, `book`).
+-- and one less, emptiness, rank and count, the lowest member, the list of members, the numbers that pass a test. Not here:
+-- which sets a book may have (`scheme`, `book`).
 -- Assumes nothing.
 use mathlib.Core.Path.{_≡_}
 use mathlib.Core.Bool.{Bool, true, false, not, _&&_, _||_}
@@ -17,13 +17,13 @@ infixl 65 _∪_ _∖_
 infix 50 _∈_ _∉_ _⊆_
 -- ---- how many attributes and objects
 
--- "A *set* is 32 bits; bit k stands for attribute or object k": attributes and objects are numbered from 0 on, at most
--- so many of each
+-- "A *set* is 32 bits; bit k stands for attribute or object k"; request 9: "Object numbers run to 63 in kinds 2 and 4, and
+-- every held set of objects grows to 64 bits", "Attributes remain 32": numbered from 0 on, at most so many of each
 abbrev pub ATTRIBUTES : ℕ
 ATTRIBUTES = 32
 
 abbrev pub OBJECTS : ℕ
-OBJECTS = 32
+OBJECTS = 64
 
 -- ---- membership
 

@@ -9,11 +9,11 @@ ghost use Rattle.sets.specs.Sets.{rank, count, lowest, ATTRIBUTES, OBJEC
 // functions on sets of objects stand behind the others, each by the same definition and law.
 pub const ATTRIBUTES: u32 = 32;
 
-pub const OBJECTS: u32 = 32;
+pub const OBJECTS: u32 = 64;
 
 pub type AttributeSet = u32;
 
-pub type ObjectSet = u32;
+pub type ObjectSet = u64;
 
 // Whether k is a member of s.
 pub fn has(s: u32, k: u32) -> bool
@@ -173,5 +173,5 @@ pub fn no_objects(m: ObjectSet) -> bool
 pub fn lowest_object(m: ObjectSet) -> u32
     ensures { λ r. ⌜ r ≡ lowest OBJECTS m ⌝ }
 {
-    u32::trailing_zeros(m)
+    u64::trailing_zeros(m)
 }

@@ -9,7 +9,7 @@ use mathlib.Core.Logic.{_↔_, _⊎_}
 use mathlib.Core.Bool.{true, Bool, false}
 use Prim.Native.Nat.{ℕ, _<_, _^_, _≤_, _+_}
 use lib.ListN.{length, drop, getD}
-use Rattle.sets.specs.Sets.{_∈_, _⊆_, single, members}
+use Rattle.sets.specs.Sets.{_∈_, _⊆_, single, members, OBJECTS}
 use Rattle.values.specs.Operators.{holds}
 use Rattle.records.specs.declared.Record.{Record}
 use Rattle.records.specs.Checks.{First}
@@ -138,7 +138,7 @@ module _ (b q : List ℕ) (serial : ℕ) (space : List ℕ) where
 
 -- maximal objects, for the scheme of any book
 module _ (b : List ℕ) where
-  pub maximal-objects-joining : (H : ℕ) → H < 2 ^ 32 → (k : ℕ)
+  pub maximal-objects-joining : (H : ℕ) → H < 2 ^ OBJECTS → (k : ℕ)
       → JoinsByTheRule (dependenciesOf (read b .scheme)) (read b .scheme .sets) H k
   maximal-objects-joining = maximal-objects-read b .joining
 
@@ -156,7 +156,7 @@ module _ (b : List ℕ) where
 
 -- what these four say, by their fields, for dependencies D, objects and their sets
 module _ (D : List Dependency) (sets : List ℕ) (objects : ℕ) (o : Bounded D sets objects) (H : ℕ) (below : H < 2 ^
-    32) (k : ℕ) where
+    OBJECTS) (k : ℕ) where
   abbrev pub joins-shares : ℕ
   joins-shares = object-joins-by-the-rule D sets objects o H below k .shares
 
@@ -196,7 +196,7 @@ module _ (D : List Dependency) (sets : List ℕ) (objects : ℕ) (o : Bounded D 
       → LowestStart D sets objects (at (computed D sets objects) j) b → a < b
   computed-by-lowest-start = computed-is-the-list D sets objects o .byLowestStart
 
-  pub computed-at-most : length (computed D sets objects) ≤ 32
+  pub computed-at-most : length (computed D sets objects) ≤ OBJECTS
   computed-at-most = computed-is-the-list D sets objects o .atMost
 
 module _ (D : List Dependency) (sets : List ℕ) (objects : ℕ) (o : Bounded D sets objects) (only : Bool) (declared
@@ -239,7 +239,7 @@ module _ (D : List Dependency) (sets : List ℕ) (objects : ℕ) (o : Bounded D 
   pub maximal-none-twice : NoneTwice (maximalObjects D sets objects only declared removed)
   maximal-none-twice = maximal-objects-are-the-list D sets objects o only declared removed .noneTwice
 
-  pub maximal-at-most : length (maximalObjects D sets objects only declared removed) ≤ 32 + length declared
+  pub maximal-at-most : length (maximalObjects D sets objects only declared removed) ≤ OBJECTS + length declared
   maximal-at-most = maximal-objects-are-the-list D sets objects o only declared removed .atMost
 
 -- kept sets, for all families of sets of attributes 0 to 31

@@ -5,6 +5,7 @@
 use Rattle.numbers.proofs.wide.Met.{met as numbers-wide}
 use Rattle.numbers.proofs.place.Met.{met as numbers-place}
 use Rattle.numbers.proofs.index.Met.{met as numbers-index}
+use Rattle.numbers.proofs.long.Met.{met as numbers-long}
 use Rattle.numbers.proofs.byte.Met.{met as numbers-byte}
 use Rattle.numbers.proofs.flag.Met.{met as numbers-flag}
 use Rattle.sets.proofs.has.Met.{met as sets-has}
@@ -38,6 +39,7 @@ use Rattle.values.proofs.holds.Met.{met as values-holds}
 use Rattle.values.proofs.matching.Met.{met as values-matching}
 use Rattle.records.proofs.byte_at.Met.{met as records-byte-at}
 use Rattle.records.proofs.word_at.Met.{met as records-word-at}
+use Rattle.records.proofs.long_at.Met.{met as records-long-at}
 use Rattle.records.proofs.is_kind.Met.{met as records-is-kind}
 use Rattle.records.proofs.of_book.Met.{met as records-of-book}
 use Rattle.records.proofs.of_query.Met.{met as records-of-query}

@@ -3,7 +3,7 @@
 -- In order: the requests by number.
 -- Assumes nothing.
 use mathlib.Core.List.{List}
-use mathlib.Core.Path.{_≡_}
+use mathlib.Core.Path.{_≡_, refl}
 use mathlib.Core.Logic.{_↔_, _⊎_}
 use mathlib.Core.Bool.{true, Bool, false, not}
 use Prim.Native.Nat.{ℕ, _<_, _^_, _≤_, _+_, _*_, _/_, _%_}
@@ -11,7 +11,7 @@ use lib.ListN.{getD}
 use lib.IntN.{negsuc}
 use lib.Signed.{_<ℤ_}
 use lib.Dec.{ltb}
-use Rattle.sets.specs.Sets.{_∈_, _⊆_, withinEach, within}
+use Rattle.sets.specs.Sets.{_∈_, _⊆_, withinEach, within, OBJECTS}
 use Rattle.sets.proofs.Theorems.{plain-containment}
 use Rattle.values.specs.Values.{missing, valueOf, inRange, lessCell, key, matches, raised}
 use Rattle.values.specs.Statements.{MatchesMean, OperatorsMean, BothStated, AllowedByItsByte, RulesTested}
@@ -30,7 +30,13 @@ use Rattle.relation.specs.Joins.{InSomeChoice, InUnionJoin}
 use Rattle.relation.proofs.Theorems.{no-other-row, union-of-choices, part-holds}
 use Rattle.scheme.specs.MaximalObjects.{bothKinds}
 use Rattle.scheme.proofs.Theorems.{both-is-a-fault}
+use Rattle.records.specs.declared.Record.the-variants.{OfBook}
+use Rattle.records.specs.declared.BookRecord.the-variants.{Declared, DeclaredWide}
+use Rattle.scheme.specs.declared.Scheme.{Scheme}
+use Rattle.book.specs.Faults.{faultOf}
+use Rattle.book.specs.Declaring.{declare}
 use Rattle.book.specs.Reading.{Outcome as BookOutcome}
+use Rattle.book.proofs.Theorems.{kind-fifteen}
 use Rattle.query.specs.Asking.{ofTwo, withCell}
 use Rattle.connection.specs.Answering.{number}
 use Rattle.connection.specs.Answers.{Cells, isTrue, kindAt}
@@ -331,3 +337,15 @@ module _ (o : BookOutcome) (at : Cells) where
 module _ (only : Bool) (removals : ℕ) where
   pub request-8-exactly : (bothKinds only removals ≡ true) ↔ ((only ≡ true) × (1 ≤ removals))
   request-8-exactly = both-is-a-fault only removals .exactly
+
+-- ---- request 9
+
+pub request-9-objects : OBJECTS ≡ 64
+request-9-objects = refl
+
+module _ (s : Scheme) (M : ℕ) where
+  pub request-9-fault : faultOf s (OfBook (DeclaredWide M)) ≡ faultOf s (OfBook (Declared M))
+  request-9-fault = kind-fifteen s M .fault
+
+  pub request-9-adds : declare s (OfBook (DeclaredWide M)) ≡ declare s (OfBook (Declared M))
+  request-9-adds = kind-fifteen s M .adds

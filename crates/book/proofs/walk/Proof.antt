@@ -1,7 +1,7 @@
 -- `book::walk` meets its contract. The invariant: the records passed are accepted, their rows counted and stored
 -- (`Walking`). The measure: the bytes left. Assumes nothing.
 use Prim.Native.Nat.{_-_}
-use mathlib.Core.Path.{sym, _∙_}
+use mathlib.Core.Path.{refl, sym, _∙_}
 use mathlib.Core.Logic.{⊎-elim}
 use native.Mathlib.Omega.{arith}
 use lib.ListN.{length}
@@ -10,6 +10,7 @@ use Rattle.records.proofs.Checks.{tested}
 use Rattle.book.proofs.Walking.{Walking, walking-start, walking-same, walking-inside, walking-rows, walking-six}
 use Rattle.book.proofs.Walking.{walking-stored, walking-full, walking-other, walking-as, walking-unread}
 use Rattle.book.proofs.Walking.{walking-faulty}
+use Rattle.book.proofs.Declaring.{row-declares-nothing}
 use borrow.Author.Needs.{needs}
 use Rattle.book.proofs.walk.Statement.{statement}
 use Rattle.book.proofs.walk.Tie as tie
@@ -109,15 +110,27 @@ loop-again c =
     let e = sym (c .before .before .before .before .before .before .before .before .read .ensures) ∙ c .before .before
     .before .before .before .before .found .given .1 in
     let f = sym (c .before .before .before .before .fault .ensures) ∙ c .before .before .before .if1 .left in
-    let is = c .before .before .is-row .ensures in
-    let d = c .declare .ensures in
+    let y = tested (c .before .before .is-row .ensures) (c .before .if2 .taken) in
+    let d = row-declares-nothing _ _ y in
     ⊎-elim
-    (λ w. ⊎-elim
-    (λ x. walking-as (walking-stored v e f (tested is (w .0 .taken)) (x .0 .taken)) (w .2 ∙ x .1) d (w .3))
-    (λ x. walking-as (walking-full v e f (tested is (w .0 .taken)) (x .0 .left)) (w .2 ∙ x .1) d (w .3))
-    (w .1 .came))
-    (λ w. walking-as (walking-other v e f (tested is (w .0 .left))) (w .1) d (w .2))
-    (c .before .if2 .came)
+    (λ x. walking-as (walking-stored v e f y (x .0 .taken)) (x .1) d refl)
+    (λ x. walking-as (walking-full v e f y (x .0 .left)) (x .1) d refl)
+    (c .if3 .came)
+
+loop-less-2 : tie.Need-loop-less-2 Inv-loop μ-loop
+loop-less-2 c =
+    let e = sym (c .before .before .before .before .before .before .before .before .read .ensures) ∙ c .before .before
+    .before .before .before .before .found .given .1 in
+    omega (arith, found-after _ _ e, whole-readAt _ _ e .within)
+
+loop-again-2 : tie.Need-loop-again-2 Inv-loop μ-loop
+loop-again-2 c =
+    let v = c .before .before .before .before .before .before .before .before .before .loop .inv in
+    let e = sym (c .before .before .before .before .before .before .before .before .read .ensures) ∙ c .before .before
+    .before .before .before .before .found .given .1 in
+    let f = sym (c .before .before .before .before .fault .ensures) ∙ c .before .before .before .if1 .left in
+    let n = tested (c .before .before .is-row .ensures) (c .before .if2 .left) in
+    walking-as (walking-other v e f n) refl (c .declare .ensures) refl
 
 pub walk-spec : {M : Type 1} → statement M
 walk-spec =
@@ -142,4 +155,6 @@ walk-spec =
     add-rows
     declare-requires
     loop-less
-    loop-again)
+    loop-again
+    loop-less-2
+    loop-again-2)

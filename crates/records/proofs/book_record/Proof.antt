@@ -1,7 +1,7 @@
 -- `records::book_record` meets its contract: in each arm the kind says how long the body is and which fields it has.
 -- Assumes nothing.
 use Rattle.records.proofs.Records.{attribute-at, object-at, dependency-at, declared-at, removed-at}
-use Rattle.records.proofs.Records.{onlyDeclared-at, last-of-book}
+use Rattle.records.proofs.Records.{onlyDeclared-at, declaredWide-at, last-of-book}
 use Rattle.records.specs.Records.{bodyLength, kinds}
 use mathlib.Core.Path.{ap}
 use native.Mathlib.Omega.{arith}
@@ -58,6 +58,18 @@ comparison-table-requires : tie.Need-comparison-table-requires
 unfolding bodyLength kinds
 comparison-table-requires c κs = omega (arith, ap bodyLength (c .match .keys7))
 
+long-at-requires : tie.Need-long-at-requires
+unfolding bodyLength kinds
+long-at-requires c κs =
+    let r = c .match .rest in
+    let a = c .before .before .args in
+    omega (
+      arith,
+      ap bodyLength
+          (last-of-book (a .kind) (c .before .before .pre .0) (r .0 .0 .0 .0 .0 .0 .0 .1) (r .0 .0 .0 .0 .0 .0 .1)
+          (r .0 .0 .0 .0 .0 .1) (r .0 .0 .0 .0 .1) (r .0 .0 .0 .1) (r .0 .0 .1) (r .0 .1) (r .1)),
+    )
+
 returns : tie.Need-returns
 returns c = search (needs, attribute-at)
 
@@ -80,12 +92,15 @@ returns-7 : tie.Need-returns-7
 returns-7 c = rw (c .before .match .keys7) (c .comparison-table .ensures)
 
 returns-8 : tie.Need-returns-8
-returns-8 c =
-    let r = c .match .rest in
-    let a = c .before .before .args in
-    onlyDeclared-at (a .s .now) (a .kind) (a .body)
-    (last-of-book (a .kind) (c .before .before .pre .0) (r .0 .0 .0 .0 .0 .0 .1) (r .0 .0 .0 .0 .0 .1)
-    (r .0 .0 .0 .0 .1) (r .0 .0 .0 .1) (r .0 .0 .1) (r .0 .1) (r .1))
+returns-8 c = search (needs, onlyDeclared-at)
+
+returns-9 : tie.Need-returns-9
+returns-9 c =
+    let r = c .before .match .rest in
+    let a = c .before .before .before .args in
+    declaredWide-at (a .s .now) (a .kind) (a .body) _
+    (last-of-book (a .kind) (c .before .before .before .pre .0) (r .0 .0 .0 .0 .0 .0 .0 .1) (r .0 .0 .0 .0 .0 .0 .1)
+    (r .0 .0 .0 .0 .0 .1) (r .0 .0 .0 .0 .1) (r .0 .0 .0 .1) (r .0 .0 .1) (r .0 .1) (r .1)) (c .long-at .ensures)
 
 pub book-record-spec : {M : Type 1} → statement M
 book-record-spec =
@@ -104,6 +119,7 @@ book-record-spec =
     word-at-requires-4
     word-at-requires-5
     comparison-table-requires
+    long-at-requires
     returns
     returns-2
     returns-3
@@ -111,4 +127,5 @@ book-record-spec =
     returns-5
     returns-6
     returns-7
-    returns-8)
+    returns-8
+    returns-9)

@@ -4,6 +4,7 @@ use Prim.Native.Nat.{_-_}
 use mathlib.Core.Path.{sym, _∙_}
 use mathlib.Core.Logic.{⊎-elim}
 use Rattle.sets.specs.Sets.{OBJECTS}
+use Rattle.sets.proofs.Sets.{yes-has, no-has}
 use Rattle.scheme.specs.OfScheme.{pairs}
 use Rattle.scheme.proofs.Loops.{HoldingBelow, holding-start, holding-held, holding-joined, holding-apart}
 use Rattle.scheme.proofs.Loops.{holding-other, holding-end}
@@ -12,10 +13,11 @@ use Rattle.scheme.proofs.round.Statement.{statement}
 use Rattle.scheme.proofs.round.Tie as tie
 
 abbrev Inv-loop : tie.InvT-loop
-Inv-loop left right n sets objects held attributes next₀ k₀ next k = HoldingBelow (pairs n left right) sets objects held k next
+Inv-loop left right n sets objects held asked before attributes next₀ k₀ next k =
+    HoldingBelow (pairs n left right) sets objects held k next
 
 abbrev μ-loop : tie.MeasureT-loop
-μ-loop left right n sets objects held attributes next₀ k₀ next k = OBJECTS - k
+μ-loop left right n sets objects held asked before attributes next₀ k₀ next k = OBJECTS - k
 
 attributes-of-requires : tie.Need-attributes-of-requires Inv-loop μ-loop
 attributes-of-requires c κs = search needs
@@ -42,7 +44,14 @@ shared-slice-read-is-determined : tie.Need-shared-slice-read-is-determined Inv-l
 shared-slice-read-is-determined c = search needs
 
 is-determined-requires : tie.Need-is-determined-requires Inv-loop μ-loop
-is-determined-requires c κs = search needs
+is-determined-requires c κs =
+    let start = c .before .before .before .before .before .before .before .before .before .before .before in (
+      start .pre .0,
+      λ y.
+          start .pre .2 y .apart _ (c .before .before .before .before .before .loop-test .taken)
+          (yes-has _ _ (sym (c .before .before .has-object2 .ensures) ∙ c .before .if2 .taken))
+          (no-has _ _ (sym (c .before .before .before .before .has-object .ensures) ∙ c .before .before .before .if1 .left)),
+    )
 
 insert-object-requires-2 : tie.Need-insert-object-requires-2 Inv-loop μ-loop
 insert-object-requires-2 c κs = search needs
