@@ -32,9 +32,10 @@ use Rattle.connection.specs.Statements.{NamesInRange}
 use Rattle.connection.proofs.Named.{item-named, AgreeOnNames, items-agree, true-agrees}
 use Rattle.connection.proofs.Connected.{of-connection, connection-has}
 use Rattle.connection.proofs.Ranged.{connection-cell-lt, connection-cell-ranged}
-use Rattle.connection.proofs.Choices.{Chosen, one, of-choices, choices-have, all-true, true-all, chosenCells}
+use Rattle.connection.proofs.Choices.{Chosen, of-choices, choices-have, all-true, true-all, chosenCells}
 use Rattle.connection.proofs.Choices.{of-rowsChosen, rowsChosen-has}
-use Rattle.connection.proofs.Choices as Choices
+use Rattle.connection.proofs.Picks as Picks
+use Rattle.connection.proofs.Picks.{one}
 
 -- ---- cells of items
 
@@ -59,10 +60,10 @@ items-ranged o (i ∷ items) at h (suc k) l =
 
 -- ---- variables 0 to 3
 
-abbrev variables : List ℕ
+abbrev pub variables : List ℕ
 variables = 0 ∷ 1 ∷ 2 ∷ 3 ∷ []
 
-of-four : (P : ℕ → Type 0) → P 0 → P 1 → P 2 → P 3 → (v : ℕ) → v < 4 → P v
+pub of-four : (P : ℕ → Type 0) → P 0 → P 1 → P 2 → P 3 → (v : ℕ) → v < 4 → P v
 of-four P p q r s zero h = p
 of-four P p q r s (suc zero) h = q
 of-four P p q r s (suc (suc zero)) h = r
@@ -75,7 +76,7 @@ module _ (b : List ℕ) (bounded : (M : ℕ) → OfAttributes (familyOf (read b 
 
   chosen-row : {l : List Row} → Chosen b (read b) rs variables l → (v : ℕ) → v < 4
       → List·Memᴰ (getD l v []) (rowsFor b (read b) rs v)
-  chosen-row (one {row = r0} m0 (one {row = r1} m1 (one {row = r2} m2 (one {row = r3} m3 Choices.none)))) v h =
+  chosen-row (one {x = r0} m0 (one {x = r1} m1 (one {x = r2} m2 (one {x = r3} m3 Picks.none)))) v h =
       of-four (λ v. List·Memᴰ (getD (r0 ∷ r1 ∷ r2 ∷ r3 ∷ []) v []) (rowsFor b (read b) rs v)) m0 m1 m2 m3 v h
 
   rows-for-named : {v a : ℕ} → NamedIn rs v a → rowsFor b (read b) rs v ≡ connection b (read b) (attributesNamed rs v)
@@ -129,7 +130,7 @@ module _ (b : List ℕ) (bounded : (M : ℕ) → OfAttributes (familyOf (read b 
     choice-chosen : Chosen b (read b) rs variables choice
     unfolding choice
     choice-chosen =
-        one (pick-there 0) (one (pick-there 1) (one (pick-there 2) (one (pick-there 3) Choices.none)))
+        one (pick-there 0) (one (pick-there 1) (one (pick-there 2) (one (pick-there 3) Picks.none)))
 
     choice-picks : {v a : ℕ} → NamedIn rs v a → getD choice v [] ≡ i .picks v
     unfolding choice

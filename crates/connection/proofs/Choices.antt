@@ -1,12 +1,9 @@
 -- Choices of one row for each of some variables, and the rows that they give.
--- In order: rows in front, choices, comparisons, rows given.
+-- In order: choices, comparisons, rows given.
 -- Assumes nothing.
-use mathlib.Core.Path.{_≡_, refl, sym, ap, _∙_, subst}
+use mathlib.Core.Path.{_≡_, refl, sym, ap, _∙_}
 use mathlib.Core.Bool.{Bool, true, false}
-use mathlib.Core.Logic.{⊎-elim}
-use mathlib.Core.List.{List, [], _∷_, map, List·Memᴰ, List·Memᴰ·head, List·Memᴰ·tail, List·Memᴰ·not-nil, Memᴰ·map}
-use mathlib.Core.List.{Memᴰ·of-map, Memᴰ·cast, List·Memᴰ·append-cases, Memᴰ·append-left, Memᴰ·append-right}
-use mathlib.Core.List.{List·Memᴰ·eq-of-singleton}
+use mathlib.Core.List.{List, [], _∷_, List·Memᴰ, List·Memᴰ·head, List·Memᴰ·tail, List·Memᴰ·not-nil}
 use Prim.Native.Nat.{ℕ}
 use lib.ListN.{getD}
 use Rattle.sets.proofs.Tests.{yes-and, and-yes, yes-no}
@@ -15,66 +12,23 @@ use Rattle.relation.specs.Tables.{Row}
 use Rattle.book.specs.Reading.{Outcome}
 use Rattle.query.specs.declared.Comparison.{Comparison}
 use Rattle.query.specs.Asking.{itemsOf, comparisonsOf}
-use Rattle.connection.specs.Answers.{Cells, itemCells, isTrue, allTrue, cellsOf, rowsFor, inFront, choices, rowsChosen}
-
--- ---- rows in front
-
--- l is one of the rows in front of one of the lists
-record InFront (rows : List Row) (ls : List (List Row)) (l : List Row) : Type 0 where
-  row : Row
-  there : List·Memᴰ row rows
-  rest : List Row
-  restThere : List·Memᴰ rest ls
-  joins : l ≡ row ∷ rest
-
-of-inFront : (rows : List Row) {ls : List (List Row)} {l : List Row} → List·Memᴰ l (inFront rows ls) → InFront rows ls l
-unfolding inFront
-of-inFront [] m = absurd (List·Memᴰ·not-nil m)
-of-inFront (r ∷ rows) {ls} {l} m =
-    ⊎-elim first (λ i. later (of-inFront rows i)) (List·Memᴰ·append-cases (map (λ q. r ∷ q) ls) m)
-  where
-    first : List·Memᴰ l (map (λ q. r ∷ q) ls) → InFront (r ∷ rows) ls l
-    first i =
-        let p = Memᴰ·of-map (λ q. r ∷ q) ls i in
-        record { row = r; there = List·Memᴰ·head refl; rest = p .0; restThere = p .1; joins = sym (p .2) }
-
-    later : InFront rows ls l → InFront (r ∷ rows) ls l
-    later p = record {
-      row = p .row;
-      there = List·Memᴰ·tail (p .there);
-      rest = p .rest;
-      restThere = p .restThere;
-      joins = p .joins;
-    }
-
-inFront-has : {row : Row} {rows : List Row} {l : List Row} {ls : List (List Row)} → List·Memᴰ row rows → List·Memᴰ l ls
-    → List·Memᴰ (row ∷ l) (inFront rows ls)
-unfolding inFront
-inFront-has {row} {rows = r ∷ rows} {l} {ls} (List·Memᴰ·head e) m =
-    Memᴰ·append-left (inFront rows ls) (Memᴰ·cast (ap (λ (q : Row). q ∷ l) e) (Memᴰ·map (λ q. r ∷ q) m))
-inFront-has {rows = r ∷ rows} {ls = ls} (List·Memᴰ·tail i) m =
-    Memᴰ·append-right (map (λ q. r ∷ q) ls) (inFront-has i m)
+use Rattle.connection.specs.Answers.{Cells, itemCells, isTrue, allTrue, cellsOf, rowsFor, choices, rowsChosen}
+use Rattle.connection.proofs.Picks.{OneOfEach, of-picks, picks-have}
 
 -- ---- choices
 
 module _ (b : List ℕ) (o : Outcome) (rs : List Record) where
   -- one row for each of some variables
-  pub data Chosen : List ℕ → List Row → Type 0 where
-    none : Chosen [] []
-    one : {v : ℕ} {vs : List ℕ} {row : Row} {l : List Row} → List·Memᴰ row (rowsFor b o rs v) → Chosen vs l
-        → Chosen (v ∷ vs) (row ∷ l)
+  abbrev pub Chosen : List ℕ → List Row → Type 0
+  Chosen = OneOfEach (rowsFor b o rs)
 
   pub of-choices : (vs : List ℕ) {l : List Row} → List·Memᴰ l (choices b o rs vs) → Chosen vs l
   unfolding choices
-  of-choices [] m = subst (Chosen []) (sym (List·Memᴰ·eq-of-singleton m)) none
-  of-choices (v ∷ vs) m =
-      let p = of-inFront (rowsFor b o rs v) m in
-      subst (Chosen (v ∷ vs)) (sym (p .joins)) (one (p .there) (of-choices vs (p .restThere)))
+  of-choices vs m = of-picks (rowsFor b o rs) vs m
 
   pub choices-have : {vs : List ℕ} {l : List Row} → Chosen vs l → List·Memᴰ l (choices b o rs vs)
   unfolding choices
-  choices-have none = List·Memᴰ·head refl
-  choices-have (one m c) = inFront-has m (choices-have c)
+  choices-have c = picks-have (rowsFor b o rs) c
 
 -- ---- comparisons
 

@@ -1,6 +1,6 @@
 -- Worked examples: what the definitions give beside what the paper says, each from the bytes of a book and of a query.
--- In order: books, queries, the trials: what is returned and the space; the rows. Two lists, for the memory that
--- checking them takes.
+-- In order: books, queries, the trials: what is returned and the space; the rows; the list of combinations. Three
+-- lists, for the memory that checking them takes.
 -- Assumes nothing.
 use mathlib.Core.Path.{_≡_, refl}
 use mathlib.Core.List.{List, [], _∷_, _++_, map}
@@ -19,7 +19,8 @@ use Rattle.records.specs.Checks.{firstOf}
 use Rattle.records.specs.Walking.{shortNumber, walkFrom, walk}
 use Rattle.records.specs.declared.BookRecord.{BookRecord}
 use Rattle.records.specs.declared.QueryRecord.{QueryRecord}
-use Rattle.records.specs.declared.BookRecord.the-variants.{Attribute, Object, Row, ComparisonTable, DeclaredWide}
+use Rattle.records.specs.declared.BookRecord.the-variants.{Attribute, Object, Dependency, Row, ComparisonTable}
+use Rattle.records.specs.declared.BookRecord.the-variants.{DeclaredWide}
 use Rattle.records.specs.declared.QueryRecord.the-variants.{Item, CompareTwo, CompareConstant, End}
 use Rattle.reduction.specs.Kept.{union, around, someHolds, removable, stays, staying, settle, left, acyclic}
 use Rattle.reduction.specs.Kept.{goesFor, goes, keeps, keptOf, kept}
@@ -47,12 +48,16 @@ use Rattle.query.specs.Reading.{isEnd, walkQuery, containing, unconnected, some
 use Rattle.sorted.specs.Rows as Sorted
 use Rattle.sorted.specs.Rows.{lessRow, insertRow, insertRows, withRows}
 use Rattle.connection.specs.declared.Answer.{Answer}
+use Rattle.connection.specs.Picks.{inFront, picksOf, product}
 use Rattle.connection.specs.Connection.{parts, connection}
-use Rattle.connection.specs.Answers.{itemCells, rightCell, isTrue, allTrue, cellsOf, rowsFor, inFront}
+use Rattle.connection.specs.Answers.{itemCells, rightCell, isTrue, allTrue, cellsOf, rowsFor}
 use Rattle.connection.specs.Answers.{choices}
 use Rattle.connection.specs.Answers.{itemKinds, answerRows}
 use Rattle.connection.specs.Answers as Answers
-use Rattle.connection.specs.Answering.{rowsAnswered, spaceNumber, number, refused, answerOf, spaceAfter}
+use Rattle.connection.specs.Order.{distinctRows, Way, waysBy, waysAmong, withAttributes, setsNamed}
+use Rattle.connection.specs.Order.{combinationsOf, rowsProduct, objectsSum, combinationCount}
+use Rattle.connection.specs.Answering.{queryRead, rowsAnswered, spaceNumber, number, refused, answerOf}
+use Rattle.connection.specs.Answering.{spaceAfter}
 
 -- ---- books
 
@@ -79,6 +84,14 @@ farRows =
     ++ DeclaredWide 9223372043297226752
     ∷ Row 31 1 10 0 0 0 0 ∷ Row 31 2 20 0 0 0 0 ∷ Row 32 10 100 0 0 0 0 ∷ Row 32 20 200 0 0 0 0
     ∷ Row 63 100 7 0 0 0 0 ∷ Row 63 200 8 0 0 0 0 ∷ Row 63 300 9 0 0 0 0 ∷ []
+
+-- two maximal objects that share object 1: objects 0 {0, 1}, 1 {1, 2} and 2 {1, 3}, attribute 1 determines 2; objects 0
+-- and 1 are one, the set 3, objects 1 and 2 the other, the set 6
+unfoldable pub overlapping : List BookRecord
+overlapping =
+    Attribute 0 0 ∷ Attribute 1 0 ∷ Attribute 2 0 ∷ Attribute 3 0
+    ∷ Object 0 3 ∷ Object 1 6 ∷ Object 2 10 ∷ Dependency 2 4
+    ∷ Row 0 8 10 0 0 0 0 ∷ Row 0 7 20 0 0 0 0 ∷ Row 1 20 6 0 0 0 0 ∷ Row 1 10 5 0 0 0 0 ∷ []
 
 -- a length beside a date, over a table that allows all six operators between the two: -5 and 3, 7 and 3
 unfoldable pub beside : List BookRecord
@@ -107,6 +120,25 @@ outcome book q serial space =
 -- the rows of a query's records with kind 10 behind them
 unfoldable pub rows : List BookRecord → List QueryRecord → List (List ℕ)
 rows book query = rowsAnswered (bytesOfBook book) (bytesOfQuery (query ++ End ∷ []))
+
+-- the combinations of a query's records with kind 10 behind them, in their order; of each variable the maximal object,
+-- then the cells of the rows
+unfoldable pub cellsOfWays : List Way → List ℕ
+cellsOfWays [] = []
+cellsOfWays (w ∷ ws) = w .object ∷ Sorted.cellsOf (w .rows) ++ cellsOfWays ws
+
+unfoldable pub setsOf : List BookRecord → List QueryRecord → List ℕ
+setsOf book query =
+    setsNamed (queryRead (read (bytesOfBook book)) (bytesOfQuery (query ++ End ∷ [])) .records)
+
+unfoldable pub combinations : List BookRecord → List QueryRecord → List (List ℕ)
+combinations book query =
+    map cellsOfWays (combinationsOf (bytesOfBook book) (read (bytesOfBook book)) (setsOf book query))
+
+-- how many
+unfoldable pub count : List BookRecord → List QueryRecord → List (List ℕ)
+count book query =
+    (combinationCount (bytesOfBook book) (read (bytesOfBook book)) (setsOf book query) ∷ []) ∷ []
 
 -- ---- the trials
 
@@ -166,7 +198,7 @@ outcomes =
 
 pub outcomes-hold : map (λ t. t .gives) outcomes ≡ map (λ t. t .says) outcomes
 unfolding outcomes outcome queries twoObjects lengths withEmpty survey ring spaceAfter answerOf refused number
-    spaceNumber rowsAnswered answerRows itemKinds choices inFront rowsFor cellsOf allTrue isTrue rightCell
+    spaceNumber rowsAnswered answerRows itemKinds choices picksOf inFront rowsFor cellsOf allTrue isTrue rightCell
     itemCells Answers.rowsChosen connection parts withRows Sorted.cellsOf insertRows insertRow lessRow Query.read atEnd
     wholeNumber someUnconnected unconnected isNil containing walkQuery isEnd Queries.faultOf Queries.checks ofQuery
     askedOf filled attributesNamed naming namesOf nameOf comparisonsOf comparisonOf itemsOf itemOf tablesOf
@@ -223,20 +255,73 @@ rowTrials =
     ∷ []
 
 pub rows-hold : map (λ t. t .gives) rowTrials ≡ map (λ t. t .says) rowTrials
-unfolding rowTrials rows beside withTable withMasks keepsRules entryKeeps everyBelow mirrored twoObjects farRows far lengths
-    withEmpty survey
-    ring spaceAfter answerOf refused number spaceNumber rowsAnswered answerRows itemKinds choices inFront rowsFor cellsOf
-    allTrue isTrue rightCell itemCells Answers.rowsChosen connection parts withRows Sorted.cellsOf insertRows insertRow
-    lessRow Query.read atEnd wholeNumber someUnconnected unconnected isNil containing walkQuery isEnd Queries.faultOf
-    Queries.checks ofQuery askedOf filled attributesNamed naming namesOf nameOf comparisonsOf comparisonOf itemsOf
-    itemOf tablesOf Tables.rowsOf Tables.rowOf Tables.cellsOf read afterLast lastFault lastNumber records withRow isRow
-    declare withMaximal withOnly withRemoved withDeclared withDependency withObject withAttribute nothingDeclared
-    faultOf checks
-    maximalChecks rowChecks wrongCells someOutside someNonZero ofBook cyclicOf bothOf maximalOf computedOf pairs
-    someCyclic counted bothKinds maximalObjects adding removing isOne computed grown rounds holding joins attributesOf
-    familyOf closure passes pass part joinRows goingOn eachPassing matchesAll rowsMatch allPass shownRows together
-    project projected cellOf kept keptOf keeps goes goesFor acyclic left settle staying stays removable someHolds around
-    union walk walkFrom shortNumber firstOf readAt readFront recordOf bodies bytesOfAll bytesOf kindOf bodyLength isKind
-    whose kinds field value bytes allows builtIn holds compares matches lessCell valueOf signed missing inRange members
-    rank isEmpty single _∖_ _∪_ _∩_ within has bit
+unfolding rowTrials rows beside withTable withMasks keepsRules entryKeeps everyBelow mirrored twoObjects farRows far
+    lengths withEmpty survey ring spaceAfter answerOf refused number spaceNumber rowsAnswered answerRows itemKinds
+    choices picksOf inFront rowsFor cellsOf allTrue isTrue rightCell itemCells Answers.rowsChosen connection parts
+    withRows Sorted.cellsOf insertRows insertRow lessRow Query.read atEnd wholeNumber someUnconnected unconnected
+    isNil containing walkQuery isEnd Queries.faultOf Queries.checks ofQuery askedOf filled attributesNamed naming
+    namesOf nameOf comparisonsOf comparisonOf itemsOf itemOf tablesOf Tables.rowsOf Tables.rowOf Tables.cellsOf read
+    afterLast lastFault lastNumber records withRow isRow declare withMaximal withOnly withRemoved withDeclared
+    withDependency withObject withAttribute nothingDeclared faultOf checks maximalChecks rowChecks wrongCells
+    someOutside someNonZero ofBook cyclicOf bothOf maximalOf computedOf pairs someCyclic counted bothKinds
+    maximalObjects adding removing isOne computed grown rounds holding joins attributesOf familyOf closure passes pass
+    part joinRows goingOn eachPassing matchesAll rowsMatch allPass shownRows together project projected cellOf kept
+    keptOf keeps goes goesFor acyclic left settle staying stays removable someHolds around union walk walkFrom
+    shortNumber firstOf readAt readFront recordOf bodies bytesOfAll bytesOf kindOf bodyLength isKind whose kinds field
+    value bytes allows builtIn holds compares matches lessCell valueOf signed missing inRange members rank isEmpty
+    single _∖_ _∪_ _∩_ within has bit
 rows-hold = refl
+
+unfoldable pub orderTrials : List Trial
+orderTrials =
+    -- variable 0 with attributes 0 and 2, kept sets {0, 1} and {1, 2} of the first maximal object; variable 1 with
+    -- attribute 1, of both maximal objects the rows 10 and 20. The row of variable 1 changes fastest, then its maximal
+    -- object, then the row of variable 0's second kept set, then that of its first
+    record {
+      gives = combinations overlapping (Item 0 0 ∷ Item 0 2 ∷ Item 1 1 ∷ []);
+      says =
+          (3 ∷ 7 ∷ 20 ∷ 10 ∷ 5 ∷ 3 ∷ 10 ∷ [])
+          ∷ (3 ∷ 7 ∷ 20 ∷ 10 ∷ 5 ∷ 3 ∷ 20 ∷ [])
+          ∷ (3 ∷ 7 ∷ 20 ∷ 10 ∷ 5 ∷ 6 ∷ 10 ∷ [])
+          ∷ (3 ∷ 7 ∷ 20 ∷ 10 ∷ 5 ∷ 6 ∷ 20 ∷ [])
+          ∷ (3 ∷ 7 ∷ 20 ∷ 20 ∷ 6 ∷ 3 ∷ 10 ∷ [])
+          ∷ (3 ∷ 7 ∷ 20 ∷ 20 ∷ 6 ∷ 3 ∷ 20 ∷ [])
+          ∷ (3 ∷ 7 ∷ 20 ∷ 20 ∷ 6 ∷ 6 ∷ 10 ∷ [])
+          ∷ (3 ∷ 7 ∷ 20 ∷ 20 ∷ 6 ∷ 6 ∷ 20 ∷ [])
+          ∷ (3 ∷ 8 ∷ 10 ∷ 10 ∷ 5 ∷ 3 ∷ 10 ∷ [])
+          ∷ (3 ∷ 8 ∷ 10 ∷ 10 ∷ 5 ∷ 3 ∷ 20 ∷ [])
+          ∷ (3 ∷ 8 ∷ 10 ∷ 10 ∷ 5 ∷ 6 ∷ 10 ∷ [])
+          ∷ (3 ∷ 8 ∷ 10 ∷ 10 ∷ 5 ∷ 6 ∷ 20 ∷ [])
+          ∷ (3 ∷ 8 ∷ 10 ∷ 20 ∷ 6 ∷ 3 ∷ 10 ∷ [])
+          ∷ (3 ∷ 8 ∷ 10 ∷ 20 ∷ 6 ∷ 3 ∷ 20 ∷ [])
+          ∷ (3 ∷ 8 ∷ 10 ∷ 20 ∷ 6 ∷ 6 ∷ 10 ∷ [])
+          ∷ (3 ∷ 8 ∷ 10 ∷ 20 ∷ 6 ∷ 6 ∷ 20 ∷ [])
+          ∷ [];
+    }
+    -- (2 times 2) times (2 plus 2)
+    ∷ record { gives = count overlapping (Item 0 0 ∷ Item 0 2 ∷ Item 1 1 ∷ []); says = (16 ∷ []) ∷ [] }
+    -- rows ascend by value: -2500 before -900 before 5
+    ∷ record {
+      gives = combinations lengths (Item 0 0 ∷ []);
+      says = (1 ∷ 4294964796 ∷ []) ∷ (1 ∷ 4294966396 ∷ []) ∷ (1 ∷ 5 ∷ []) ∷ [];
+    }
+    -- none: the table of variable 1 has no row
+    ∷ record { gives = combinations withEmpty (Item 0 0 ∷ CompareTwo 1 4 0 1 4 ∷ []); says = [] }
+    ∷ record { gives = count withEmpty (Item 0 0 ∷ CompareTwo 1 4 0 1 4 ∷ []); says = (0 ∷ []) ∷ [] }
+    ∷ []
+
+pub order-holds : map (λ t. t .gives) orderTrials ≡ map (λ t. t .says) orderTrials
+unfolding orderTrials combinations count setsOf cellsOfWays combinationsOf combinationCount objectsSum rowsProduct
+    product waysAmong waysBy distinctRows withAttributes overlapping lengths withEmpty survey picksOf inFront
+    Sorted.cellsOf insertRows insertRow lessRow Query.read atEnd wholeNumber someUnconnected unconnected isNil
+    containing walkQuery isEnd Queries.faultOf Queries.checks ofQuery askedOf filled attributesNamed naming namesOf
+    nameOf comparisonsOf comparisonOf itemsOf itemOf tablesOf Tables.rowsOf Tables.rowOf Tables.cellsOf read afterLast
+    lastFault lastNumber records withRow isRow declare withMaximal withOnly withRemoved withDeclared withDependency
+    withObject withAttribute nothingDeclared faultOf checks maximalChecks rowChecks wrongCells someOutside someNonZero
+    ofBook cyclicOf bothOf maximalOf computedOf pairs someCyclic counted bothKinds maximalObjects adding removing
+    isOne computed grown rounds holding joins attributesOf familyOf closure passes pass shownRows project projected
+    cellOf kept keptOf keeps goes goesFor acyclic left settle staying stays removable someHolds around union walk
+    walkFrom shortNumber firstOf readAt readFront recordOf bodies bytesOfAll bytesOf kindOf bodyLength isKind whose
+    kinds field value bytes allows builtIn lessCell valueOf signed missing inRange members rank isEmpty single _∖_ _∪_
+    _∩_ within has bit
+order-holds = refl

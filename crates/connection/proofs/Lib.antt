@@ -1,5 +1,6 @@
 -- The laws of `connection`. Assumes nothing.
 pub mod InRange
+pub mod Picks
 pub mod Shown
 pub mod Named
 pub mod Connected
@@ -8,6 +9,8 @@ pub mod Ranged
 pub mod Choices
 pub mod Answered
 pub mod Combined
+pub mod Ways
+pub mod Order
 pub mod Spaces
 pub mod Outcomes
 pub mod Theorems

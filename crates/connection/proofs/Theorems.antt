@@ -1,7 +1,7 @@
 -- The theorems of `Statements`, then those of `Outcomes`, each in its order.
 -- Assumes nothing.
-use mathlib.Core.Path.{_≡_, _∙_}
-use mathlib.Core.List.{List, List·Memᴰ}
+use mathlib.Core.Path.{_≡_, refl, _∙_}
+use mathlib.Core.List.{List, List·Memᴰ, Memᴰ·cast}
 use Prim.Native.Nat.{ℕ}
 use lib.ListN.{length-map}
 use Rattle.sets.specs.Sets.{_∈_, _⊆_}
@@ -20,6 +20,8 @@ use Rattle.query.specs.Asking.{itemsOf}
 use Rattle.connection.specs.Statements.{NamesInRange, ConnectionListed, AnswerListed, AnswerInRange, CombinationsGive}
 use Rattle.connection.specs.Statements.{AnswerFits, OneKeptSet, ComparisonMeans}
 use Rattle.connection.specs.Answers.{Cells, kindOf, kindAt, rightCell, isTrue, itemKinds}
+use Rattle.connection.specs.Statements.{CombinationsCounted, CombinationsListed, CombinationsOrdered}
+use Rattle.connection.specs.Order.{waysPicked}
 use Rattle.connection.specs.Answering.{queryRead, rowsAnswered}
 use Rattle.connection.specs.Outcomes.{itemCount, AnswerNumberMeans, Demand1, PromiseE}
 use Rattle.connection.proofs.InRange.{read-in-range}
@@ -29,6 +31,8 @@ use Rattle.connection.proofs.Fitted.{part-fits, fits-part, answer-fits-
 use Rattle.connection.proofs.Answered.{answer-rows, answer-ascending, answer-rows-of-kinds, only-answer}
 use Rattle.connection.proofs.Answered.{answer-rows-ranged}
 use Rattle.connection.proofs.Combined.{answer-combined, combined-answer}
+use Rattle.connection.proofs.Order.{combinations-size, of-combinations, combinations-have, one-row}
+use Rattle.connection.proofs.Order.{combinations-once, combinations-in-order, combinations-only}
 use Rattle.connection.proofs.Spaces.{AllWide}
 use Rattle.connection.proofs.Outcomes.{number-of-book, number-of-query, number-fourteen, number-thirteen}
 use Rattle.connection.proofs.Outcomes.{number-full, number-otherwise, number-one-of, number-not-eight}
@@ -80,6 +84,38 @@ comparison-means o at = record {
 pub combinations-give : (b : List ℕ) (rs : List Record) → NamesInRange rs → CombinationsGive b rs
 combinations-give b rs range = record {
   rows = λ row. (answer-combined b (read b) (bounded b) range, combined-answer b (read b) (bounded b) range);
+}
+
+-- ---- the list of combinations
+
+pub combinations-counted : (b : List ℕ) (o : Outcome) (Xs : List ℕ) → CombinationsCounted b o Xs
+combinations-counted b o Xs = record { size = combinations-size b o Xs }
+
+pub combinations-listed : (b : List ℕ) (rs : List Record) → NamesInRange rs → CombinationsListed b rs
+combinations-listed b rs range = record {
+  each = λ c. (
+    of-combinations b rs range,
+    λ (p, e). Memᴰ·cast e (combinations-have b rs p),
+  );
+  rows = λ row. (
+    λ m.
+        let (p, passes, e) = combinations-give b rs range .rows row .0 (answer-listed b rs range .rows row .0 m) in (
+          waysPicked rs p,
+          combinations-have b rs p,
+          record { combination = p; picked = refl; passes = passes; shows = e },
+        ),
+    λ (c, m, g).
+        answer-listed b rs range .rows row .1
+        (combinations-give b rs range .rows row .1 (g .combination, g .passes, g .shows)),
+  );
+  oneRow = λ c row other. one-row b rs range;
+}
+
+pub combinations-ordered : (b : List ℕ) (Xs : List ℕ) → CombinationsOrdered b Xs
+combinations-ordered b Xs = record {
+  once = combinations-once b Xs;
+  inOrder = combinations-in-order b Xs;
+  only = combinations-only b Xs;
 }
 
 -- ---- cells that fit

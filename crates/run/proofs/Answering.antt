@@ -28,7 +28,8 @@ use Rattle.connection.specs.Answers.{kindOf, itemKinds}
 use Rattle.connection.specs.Answering.{queryRead, rowsAnswered, number, spaceAfter}
 use Rattle.connection.specs.Outcomes.{Good, MoreSerials, itemCount, cellsNeeded}
 use Rattle.connection.proofs.Theorems.{names-in-range, answer-in-range, answer-number-means, demand1}
-use Rattle.answer.proofs.Asked.{at-member, Asks, query-asks, not-none}
+use Rattle.connection.proofs.Picks.{at-member}
+use Rattle.answer.proofs.Asked.{Asks, query-asks, not-none}
 use Rattle.printout.specs.Lines.{headLine, rowLines, answerText, FitToPrint}
 use Rattle.printout.proofs.Fit.{cell-at}
 use Rattle.printout.proofs.Theorems.{room-enough}

@@ -58,9 +58,11 @@ use Rattle.connection.specs.Answering.{answerOf, spaceAfter, number, rowsAnswer
 use Rattle.connection.specs.declared.Answer.{Answer}
 use Rattle.connection.specs.Statements.{NamesInRange, AnswerListed, CombinationsGive}
 use Rattle.connection.specs.Answers.{answerRows, InAnswer, itemKinds, Combination, Passes, itemCells, combined}
+use Rattle.connection.specs.Order.{Way, setsNamed, combinationsOf, waysPicked, GivesRow, combinationCount}
+use Rattle.connection.specs.Order.{CombinationBefore}
 use Rattle.connection.specs.Fitting.{tableOf, FitsObject}
 use Rattle.connection.proofs.Theorems.{names-in-range, answer-listed, combinations-give, answer-number-means, demand1}
-use Rattle.connection.proofs.Theorems.{promise-e}
+use Rattle.connection.proofs.Theorems.{combinations-counted, combinations-listed, combinations-ordered, promise-e}
 use Rattle.printout.specs.Lines.{bookRefused, queryRefused}
 use Rattle.run.specs.Running.{openingOf, printout, openingText, textOf, fullText, stepOf}
 use Rattle.run.specs.Statements.{Steps}
@@ -275,6 +277,41 @@ module _ (b : List ℕ) (rs : List Record) (range : NamesInRange rs) where
       → InAnswer b (read b) rs row ↔ ((p : Combination b (read b) rs) × Passes b (read b) rs p × (row ≡ itemCells
       (itemsOf rs) (combined b (read b) rs p)))
   combinations-rows = combinations-give b rs range .rows
+
+  -- "A *combination* picks, for every variable, an M that contains its X and one distinct row for each kept set of that
+  -- M": the list of them
+  pub combinations-each : (c : List Way) → List·Memᴰ c (combinationsOf b (read b) (setsNamed rs))
+      ↔ ((p : Combination b (read b) rs) × (c ≡ waysPicked rs p))
+  combinations-each = combinations-listed b rs range .each
+
+  pub combinations-answer : (row : Row) → List·Memᴰ row (answerRows b (read b) rs)
+      ↔ ((c : List Way) × List·Memᴰ c (combinationsOf b (read b) (setsNamed rs)) × GivesRow b (read b) rs c row)
+  combinations-answer = combinations-listed b rs range .rows
+
+  pub combinations-one-row : (c : List Way) (row other : Row) → GivesRow b (read b) rs c row
+      → GivesRow b (read b) rs c other → row ≡ other
+  combinations-one-row = combinations-listed b rs range .oneRow
+
+-- "the order of combinations is fixed in docs/", and how many there are
+module _ (b Xs : List ℕ) where
+  pub combinations-size : (o : BookOutcome) → length (combinationsOf b o Xs) ≡ combinationCount b o Xs
+  combinations-size o = combinations-counted b o Xs .size
+
+  pub combinations-once : (i j : ℕ) → i < length (combinationsOf b (read b) Xs)
+      → j < length (combinationsOf b (read b) Xs)
+      → getD (combinationsOf b (read b) Xs) i [] ≡ getD (combinationsOf b (read b) Xs) j [] → i ≡ j
+  combinations-once = combinations-ordered b Xs .once
+
+  pub combinations-in-order : (i j : ℕ) → i < j → j < length (combinationsOf b (read b) Xs)
+      → CombinationBefore b (read b) Xs (getD (combinationsOf b (read b) Xs) i [])
+      (getD (combinationsOf b (read b) Xs) j [])
+  combinations-in-order = combinations-ordered b Xs .inOrder
+
+  pub combinations-only : (l : List (List Way))
+      → ((c : List Way) → List·Memᴰ c l ↔ List·Memᴰ c (combinationsOf b (read b) Xs))
+      → ((i j : ℕ) → i < j → j < length l → CombinationBefore b (read b) Xs (getD l i []) (getD l j []))
+      → l ≡ combinationsOf b (read b) Xs
+  combinations-only = combinations-ordered b Xs .only
 
 module _ (b q : List ℕ) where
   pub names-each : (v a : ℕ) → NamedIn (queryRead (read b) q .records) v a → (v < 4) × (a < 32)

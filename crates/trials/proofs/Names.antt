@@ -142,8 +142,9 @@ use Rattle.search.proofs.Examples.{trials-hold as search-trials-hold, between-h
 use Rattle.plan.proofs.Theorems.{rows-read, rows-apart}
 use Rattle.connection.proofs.Theorems.{names-in-range, connection-listed, answer-listed, combinations-give, answer-fits}
 use Rattle.connection.proofs.Theorems.{answer-in-range, comparison-means}
+use Rattle.connection.proofs.Theorems.{combinations-counted, combinations-listed, combinations-ordered}
 use Rattle.connection.proofs.Theorems.{one-kept-set, answer-number-means, demand1, promise-e}
-use Rattle.connection.proofs.Examples.{outcomes-hold, rows-hold}
+use Rattle.connection.proofs.Examples.{outcomes-hold, rows-hold, order-holds}
 use Rattle.choices.proofs.Theorems.{same-rows-either-way}
 use Rattle.printout.proofs.Theorems.{in-decimal, cells-read, texts-read, fit-tested, text-printed, answer-printed}
 use Rattle.printout.proofs.Theorems.{fit-bounds, room-enough}

@@ -51,7 +51,8 @@ use Rattle.book.specs.TablesOf.{tablesOf}
 use Rattle.sorted.specs.Rows.{lessRow, insertRow, insertRows}
 use Rattle.connection.specs.Connection.{parts, connection}
 use Rattle.connection.specs.Answers.{itemCells, rightCell, isTrue, allTrue, cellsOf, rowsFor}
-use Rattle.connection.specs.Answers.{inFront, choices}
+use Rattle.connection.specs.Picks.{inFront, picksOf}
+use Rattle.connection.specs.Answers.{choices}
 use Rattle.connection.specs.Answers.{itemKinds, answerRows}
 use Rattle.connection.specs.Answers as Answers
 use Rattle.connection.specs.Answering.{rowsAnswered, spaceNumber, number}
@@ -239,7 +240,7 @@ all-hold :
 unfolding gapRuns noted noting gaps datedRuns asked club dated refused keepsRules entryKeeps everyBelow mirrored
     withTable withMasks runs run apart first second twelve stopped output queries printout answers answersWithin fullText headLine
     rowLines cellTexts line behind bookRefused queryRefused cellText valueText integerText decimal decimalWithin number
-    spaceNumber rowsAnswered answerRows itemKinds choices inFront rowsFor cellsOf allTrue isTrue rightCell itemCells
+    spaceNumber rowsAnswered answerRows itemKinds choices picksOf inFront rowsFor cellsOf allTrue isTrue rightCell itemCells
     Answers.rowsChosen connection parts insertRows insertRow lessRow tablesOf Tables.rowsOf Tables.rowOf Tables.cellsOf part
     joinRows goingOn eachPassing matchesAll rowsMatch allPass shownRows together project projected holds compares
     matches lessCell valueOf signed refusal Query.read atEnd wholeNumber someUnconnected unconnected isNil containing
