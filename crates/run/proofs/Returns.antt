@@ -21,7 +21,7 @@ use Rattle.query.specs.declared.Asked.{Asked}
 use Rattle.query.specs.Reading as Querying
 use Rattle.scheme.specs.declared.Scheme.{Scheme}
 use Rattle.terms.specs.declared.Terms.{Terms}
-use Rattle.terms.specs.Terms.{Known, InRange, TermsOf}
+use Rattle.terms.specs.Terms.{InRange, TermsOf}
 use Rattle.connection.specs.declared.Answer.{Answer}
 use Rattle.connection.specs.Answers.{kindOf, itemKinds}
 use Rattle.connection.specs.Answering.{queryRead, rowsAnswered, number, refused, answerOf, spaceAfter}
@@ -111,7 +111,7 @@ module _ (b : List ℕ) {book : Book} (e : book ≡ bookOf (read b)) (z : read b
   good-query y = query-number b e good-here q m w ∙ y
 
   pub asked-good : queryRead (read b) q .number ≡ 0
-      → InRange (query .asked) × (ATTRIBUTES ≤ length (book .scheme .kinds)) × Known (book .scheme .kinds)
+      → InRange (query .asked) × (ATTRIBUTES ≤ length (book .scheme .kinds))
   asked-good y = asked-ready b e good-here q m w (good-query y)
 
   kinds-are : {t : Terms} → query .refusal ≡ 0 → TermsOf (book .scheme .kinds) (query .asked) t

@@ -70,6 +70,18 @@ use Rattle.sorted.proofs.seek.Met.{met as sorted-seek}
 use Rattle.sorted.proofs.sort.Met.{met as sorted-sort}
 use Rattle.seen.proofs.is_there.Met.{met as seen-is-there}
 use Rattle.seen.proofs.remember.Met.{met as seen-remember}
+use Rattle.clauses.proofs.register.Met.{met as clauses-register}
+use Rattle.clauses.proofs.constant.Met.{met as clauses-constant}
+use Rattle.clauses.proofs.is_constant.Met.{met as clauses-is-constant}
+use Rattle.clauses.proofs.variable_of.Met.{met as clauses-variable-of}
+use Rattle.clauses.proofs.attribute_of.Met.{met as clauses-attribute-of}
+use Rattle.clauses.proofs.put.Met.{met as clauses-put}
+use Rattle.clauses.proofs.clause_at.Met.{met as clauses-clause-at}
+use Rattle.clauses.proofs.passes.Met.{met as clauses-passes}
+use Rattle.clauses.proofs.reads.Met.{met as clauses-reads}
+use Rattle.clauses.proofs.equal_to.Met.{met as clauses-equal-to}
+use Rattle.search.proofs.copy.Met.{met as search-copy}
+use Rattle.search.proofs.take_row.Met.{met as search-take-row}
 use Rattle.search.proofs.search.Met.{met as search-search}
 use Rattle.terms.proofs.terms_of.Met.{met as terms-terms-of}
 use Rattle.plan.proofs.columns_of.Met.{met as plan-columns-of}
@@ -137,6 +149,7 @@ use Rattle.query.proofs.Examples.{trials-hold as query-trials-hold}
 use Rattle.sorted.proofs.Theorems.{rows-ordered, determined-by-members, row-more, rows-more, rows-sorted}
 use Rattle.sorted.proofs.Theorems.{ascending-by-first-columns, next-same}
 use Rattle.sorted.proofs.Examples.{trials-hold as sorted-trials-hold}
+use Rattle.clauses.proofs.Theorems.{registers-apart, reads-decide, equates-cells, clause-put}
 use Rattle.search.proofs.Theorems.{combinations-fit, fill-means, live-decides}
 use Rattle.search.proofs.Examples.{trials-hold as search-trials-hold, between-holds}
 use Rattle.plan.proofs.Theorems.{rows-read, rows-apart}
