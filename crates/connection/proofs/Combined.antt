@@ -6,19 +6,17 @@ use mathlib.Core.List.{List, [], map, List·Memᴰ}
 use Prim.Native.Nat.{ℕ}
 use Rattle.sets.specs.Sets.{_⊆_, members, ATTRIBUTES}
 use Rattle.reduction.specs.Statements.{OfAttributes}
-use Rattle.records.specs.declared.Record.{Record}
 use Rattle.relation.specs.Tables.{Row}
 use Rattle.relation.specs.Joins.{Picked, Matching, together}
 use Rattle.relation.proofs.Fitting.{join-direct, direct-join}
 use Rattle.scheme.specs.Growing.{familyOf, attributesOf}
 use Rattle.scheme.specs.OfScheme.{maximalOf}
 use Rattle.book.specs.Reading.{Outcome}
-use Rattle.query.specs.Asking.{itemsOf, attributesNamed}
-use Rattle.query.specs.Accepting.{NamedIn}
+use Rattle.query.specs.Asking.{Asking, Named, attributesNamed}
 use Rattle.connection.specs.Connection.{InConnection}
 use Rattle.connection.specs.Answers.{itemCells, cellsOf, InAnswer, shownTables, Combination, combined, Passes}
 use Rattle.connection.specs.Statements.{NamesInRange}
-use Rattle.connection.proofs.Named.{AgreeOnNames, items-agree, true-agrees, shown-agree, forEach, for-each}
+use Rattle.connection.proofs.Named.{AgreeOnNames, items-agree, condition-agrees, shown-agree, forEach, for-each}
 use Rattle.connection.proofs.Fitted.{wanted-shown}
 
 -- a maximal object and rows of its tables shown
@@ -67,41 +65,41 @@ module _ (b : List ℕ) (o : Outcome) (bounded : (M : ℕ) → OfAttributes (fam
 
   -- ---- answer rows
 
-  module _ {rs : List Record} (range : NamesInRange rs) where
+  module _ {q : Asking} (range : NamesInRange q) where
     -- a combination that passes gives the row
     abbrev pub Given : Row → Type 0
-    Given row = (p : Combination b o rs) × Passes b o rs p × (row ≡ itemCells (itemsOf rs) (combined b o rs p))
+    Given row = (p : Combination b o q) × Passes b o q p × (row ≡ itemCells (q .items) (combined b o q p))
 
-    pub answer-combined : {row : Row} → InAnswer b o rs row → Given row
+    pub answer-combined : {row : Row} → InAnswer b o q row → Given row
     unfolding combined
     answer-combined i =
-        let P : ℕ → Pick → Type 0 = λ v p. Combines (attributesNamed rs v) (i .picks v) p in
-        let had : (v a : ℕ) → NamedIn rs v a → (p : Pick) × P v p = λ v a n. connection-combines (i .connected v a n) in
+        let P : ℕ → Pick → Type 0 = λ v p. Combines (attributesNamed q v) (i .picks v) p in
+        let had : (v a : ℕ) → Named q v a → (p : Pick) × P v p = λ v a n. connection-combines (i .connected v a n) in
         let no : Pick = record { object = 0; rows = [] } in
-        let pick : ℕ → Pick = forEach rs P no had in
-        let such : (v a : ℕ) → NamedIn rs v a → P v (pick v) = for-each rs P no had in
-        let p : Combination b o rs = record {
+        let pick : ℕ → Pick = forEach q P no had in
+        let such : (v a : ℕ) → Named q v a → P v (pick v) = for-each q P no had in
+        let p : Combination b o q = record {
           object = λ v. pick v .object;
           rows = λ v. pick v .rows;
           there = λ v a n. such v a n .there;
           contains = λ v a n. such v a n .contains;
           picked = λ v a n. such v a n .picked;
         } in
-        let s : AgreeOnNames rs (cellsOf rs (i .picks)) (combined b o rs p) =
+        let s : AgreeOnNames q (cellsOf q (i .picks)) (combined b o q p) =
         shown-agree range (λ v a n. such v a n .shows) in (
           p,
           record {
             matching = λ v a n. such v a n .matching;
-            holding = λ c m. sym (true-agrees s o m) ∙ i .holding c m;
+            holding = sym (condition-agrees range s o) ∙ i .holding;
           },
-          i .shows ∙ items-agree s,
+          i .shows ∙ items-agree range s,
         )
 
-    pub combined-answer : {row : Row} → Given row → InAnswer b o rs row
+    pub combined-answer : {row : Row} → Given row → InAnswer b o q row
     unfolding combined
     combined-answer (p, passes, e) =
-        let picks : ℕ → Row = λ v. map (combined b o rs p v) (members ATTRIBUTES (attributesNamed rs v)) in
-        let s : AgreeOnNames rs (cellsOf rs picks) (combined b o rs p) = shown-agree range (λ v a n. refl) in
+        let picks : ℕ → Row = λ v. map (combined b o q p v) (members ATTRIBUTES (attributesNamed q v)) in
+        let s : AgreeOnNames q (cellsOf q picks) (combined b o q p) = shown-agree range (λ v a n. refl) in
         record {
           picks = picks;
           connected = λ v a n.
@@ -112,6 +110,6 @@ module _ (b : List ℕ) (o : Outcome) (bounded : (M : ℕ) → OfAttributes (fam
                 matching = passes .matching v a n;
                 shows = refl;
               });
-          holding = λ c m. true-agrees s o m ∙ passes .holding c m;
-          shows = e ∙ sym (items-agree s);
+          holding = condition-agrees range s o ∙ passes .holding;
+          shows = e ∙ sym (items-agree range s);
         }

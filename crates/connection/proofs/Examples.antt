@@ -41,7 +41,7 @@ use Rattle.book.specs.TablesOf as Tables
 use Rattle.book.specs.TablesOf.{tablesOf}
 use Rattle.book.proofs.Examples.{survey, ring, far}
 use Rattle.query.specs.Asking.{itemOf, itemsOf, comparisonOf, comparisonsOf, nameOf, namesOf, naming, attributesNamed}
-use Rattle.query.specs.Asking.{filled, askedOf}
+use Rattle.query.specs.Asking.{comparisonsIn, conjunction, filled, askedOf}
 use Rattle.query.specs.Faults as Queries
 use Rattle.query.specs.Reading as Query
 use Rattle.query.specs.Reading.{isEnd, walkQuery, containing, unconnected, someUnconnected, wholeNumber, atEnd}
@@ -50,13 +50,14 @@ use Rattle.sorted.specs.Rows.{lessRow, insertRow, insertRows, withRows}
 use Rattle.connection.specs.declared.Answer.{Answer}
 use Rattle.connection.specs.Picks.{inFront, picksOf, product}
 use Rattle.connection.specs.Connection.{parts, connection}
-use Rattle.connection.specs.Answers.{itemCells, rightCell, isTrue, allTrue, cellsOf, rowsFor}
+use Rattle.connection.specs.Answers.{itemCells, rightCell, isTrue, meets, cellsOf, rowsFor}
 use Rattle.connection.specs.Answers.{choices}
 use Rattle.connection.specs.Answers.{itemKinds, answerRows}
 use Rattle.connection.specs.Answers as Answers
 use Rattle.connection.specs.Order.{distinctRows, Way, waysBy, waysAmong, withAttributes, setsNamed}
 use Rattle.connection.specs.Order.{combinationsOf, rowsProduct, objectsSum, combinationCount}
-use Rattle.connection.specs.Answering.{queryRead, rowsAnswered, spaceNumber, number, refused, answerOf}
+use Rattle.connection.specs.Answering.{queryRead, rowsAnswered, spaceNumber, askedNumber, number, refused}
+use Rattle.connection.specs.Answering.{answerOf}
 use Rattle.connection.specs.Answering.{spaceAfter}
 
 -- ---- books
@@ -129,7 +130,7 @@ cellsOfWays (w ∷ ws) = w .object ∷ Sorted.cellsOf (w .rows) ++ cellsOfWays w
 
 unfoldable pub setsOf : List BookRecord → List QueryRecord → List ℕ
 setsOf book query =
-    setsNamed (queryRead (read (bytesOfBook book)) (bytesOfQuery (query ++ End ∷ [])) .records)
+    setsNamed (queryRead (read (bytesOfBook book)) (bytesOfQuery (query ++ End ∷ [])) .asking)
 
 unfoldable pub combinations : List BookRecord → List QueryRecord → List (List ℕ)
 combinations book query =
@@ -198,10 +199,10 @@ outcomes =
 
 pub outcomes-hold : map (λ t. t .gives) outcomes ≡ map (λ t. t .says) outcomes
 unfolding outcomes outcome queries twoObjects lengths withEmpty survey ring spaceAfter answerOf refused number
-    spaceNumber rowsAnswered answerRows itemKinds choices picksOf inFront rowsFor cellsOf allTrue isTrue rightCell
+    spaceNumber askedNumber rowsAnswered answerRows itemKinds choices picksOf inFront rowsFor cellsOf meets isTrue rightCell
     itemCells Answers.rowsChosen connection parts withRows Sorted.cellsOf insertRows insertRow lessRow Query.read atEnd
     wholeNumber someUnconnected unconnected isNil containing walkQuery isEnd Queries.faultOf Queries.checks ofQuery
-    askedOf filled attributesNamed naming namesOf nameOf comparisonsOf comparisonOf itemsOf itemOf tablesOf
+    askedOf comparisonsIn conjunction filled attributesNamed naming namesOf nameOf comparisonsOf comparisonOf itemsOf itemOf tablesOf
     Tables.rowsOf Tables.rowOf Tables.cellsOf read afterLast lastFault lastNumber records withRow isRow declare
     withMaximal withOnly withRemoved withDeclared withDependency withObject withAttribute nothingDeclared faultOf checks
     maximalChecks rowChecks wrongCells someOutside someNonZero ofBook cyclicOf bothOf maximalOf computedOf pairs
@@ -256,10 +257,10 @@ rowTrials =
 
 pub rows-hold : map (λ t. t .gives) rowTrials ≡ map (λ t. t .says) rowTrials
 unfolding rowTrials rows beside withTable withMasks keepsRules entryKeeps everyBelow mirrored twoObjects farRows far
-    lengths withEmpty survey ring spaceAfter answerOf refused number spaceNumber rowsAnswered answerRows itemKinds
-    choices picksOf inFront rowsFor cellsOf allTrue isTrue rightCell itemCells Answers.rowsChosen connection parts
+    lengths withEmpty survey ring spaceAfter answerOf refused number spaceNumber askedNumber rowsAnswered answerRows itemKinds
+    choices picksOf inFront rowsFor cellsOf meets isTrue rightCell itemCells Answers.rowsChosen connection parts
     withRows Sorted.cellsOf insertRows insertRow lessRow Query.read atEnd wholeNumber someUnconnected unconnected
-    isNil containing walkQuery isEnd Queries.faultOf Queries.checks ofQuery askedOf filled attributesNamed naming
+    isNil containing walkQuery isEnd Queries.faultOf Queries.checks ofQuery askedOf comparisonsIn conjunction filled attributesNamed naming
     namesOf nameOf comparisonsOf comparisonOf itemsOf itemOf tablesOf Tables.rowsOf Tables.rowOf Tables.cellsOf read
     afterLast lastFault lastNumber records withRow isRow declare withMaximal withOnly withRemoved withDeclared
     withDependency withObject withAttribute nothingDeclared faultOf checks maximalChecks rowChecks wrongCells
@@ -314,7 +315,7 @@ pub order-holds : map (λ t. t .gives) orderTrials ≡ map (λ t. t .says) order
 unfolding orderTrials combinations count setsOf cellsOfWays combinationsOf combinationCount objectsSum rowsProduct
     product waysAmong waysBy distinctRows withAttributes overlapping lengths withEmpty survey picksOf inFront
     Sorted.cellsOf insertRows insertRow lessRow Query.read atEnd wholeNumber someUnconnected unconnected isNil
-    containing walkQuery isEnd Queries.faultOf Queries.checks ofQuery askedOf filled attributesNamed naming namesOf
+    containing walkQuery isEnd Queries.faultOf Queries.checks ofQuery askedOf comparisonsIn conjunction filled attributesNamed naming namesOf
     nameOf comparisonsOf comparisonOf itemsOf itemOf tablesOf Tables.rowsOf Tables.rowOf Tables.cellsOf read afterLast
     lastFault lastNumber records withRow isRow declare withMaximal withOnly withRemoved withDeclared withDependency
     withObject withAttribute nothingDeclared faultOf checks maximalChecks rowChecks wrongCells someOutside someNonZero

@@ -12,7 +12,6 @@ use Rattle.reduction.specs.Steps.{Family}
 use Rattle.reduction.specs.Kept.{union, kept}
 use Rattle.reduction.specs.Statements.{OfAttributes}
 use Rattle.reduction.proofs.Left.{union-⊇}
-use Rattle.records.specs.declared.Record.{Record}
 use Rattle.relation.specs.Tables.{Row, cellOf, Table, family, projected, project}
 use Rattle.relation.proofs.Tables.{cell-projected, of-project, project-has}
 use Rattle.relation.specs.Joins.{OfTwo, keptSets}
@@ -23,8 +22,7 @@ use Rattle.scheme.specs.Growing.{familyOf, attributesOf}
 use Rattle.book.specs.Reading.{Outcome}
 use Rattle.book.specs.TablesOf.{tablesOf}
 use Rattle.book.proofs.TablesOf.{tables-family}
-use Rattle.query.specs.Asking.{attributesNamed}
-use Rattle.query.specs.Accepting.{NamedIn}
+use Rattle.query.specs.Asking.{Asking, Named, attributesNamed}
 use Rattle.connection.specs.Connection.{InPart, InConnection}
 use Rattle.connection.specs.Answers.{Cells, cellsOf, InAnswer, shownTables}
 use Rattle.scheme.proofs.KeptSets.{object-in-family, kept-shown}
@@ -32,7 +30,7 @@ use Rattle.connection.specs.Fitting.{tableOf, RowFits, FitsObject, FitsV
 use Rattle.connection.specs.Statements.{NamesInRange}
 use Rattle.connection.proofs.Shown.{row-of-object, of-shown-row, shownOn, shown-has, of-shown}
 use Rattle.connection.proofs.Shown.{kept-of-two, of-two-keep}
-use Rattle.connection.proofs.Named.{AgreeOnNames, items-agree, true-agrees, shown-agree, forEach, for-each}
+use Rattle.connection.proofs.Named.{AgreeOnNames, items-agree, condition-agrees, shown-agree, forEach, for-each}
 
 module _ (b : List ℕ) (o : Outcome) (bounded : (M : ℕ) → OfAttributes (familyOf (o .scheme .sets) M)) where
   -- ---- cells that fit the tables shown
@@ -157,28 +155,28 @@ module _ (b : List ℕ) (o : Outcome) (bounded : (M : ℕ) → OfAttributes (fam
 
   -- ---- answer rows
 
-  module _ {rs : List Record} (range : NamesInRange rs) where
-    pub answer-fits-query : {row : Row} → InAnswer b o rs row → FitsQuery b o rs row
+  module _ {q : Asking} (range : NamesInRange q) where
+    pub answer-fits-query : {row : Row} → InAnswer b o q row → FitsQuery b o q row
     answer-fits-query i =
-        let P : ℕ → (ℕ → ℕ) → Type 0 = λ v ρ. ShowsCells (attributesNamed rs v) (i .picks v) ρ in
-        let had : (v a : ℕ) → NamedIn rs v a → (ρ : ℕ → ℕ) × P v ρ = λ v a n. connection-cells (i .connected v a n) in
-        let at : Cells = forEach rs P (λ a. 0) had in
-        let such : (v a : ℕ) → NamedIn rs v a → P v (at v) = for-each rs P (λ a. 0) had in
-        let s : AgreeOnNames rs (cellsOf rs (i .picks)) at = shown-agree range (λ v a n. such v a n .shows) in
+        let P : ℕ → (ℕ → ℕ) → Type 0 = λ v ρ. ShowsCells (attributesNamed q v) (i .picks v) ρ in
+        let had : (v a : ℕ) → Named q v a → (ρ : ℕ → ℕ) × P v ρ = λ v a n. connection-cells (i .connected v a n) in
+        let at : Cells = forEach q P (λ a. 0) had in
+        let such : (v a : ℕ) → Named q v a → P v (at v) = for-each q P (λ a. 0) had in
+        let s : AgreeOnNames q (cellsOf q (i .picks)) at = shown-agree range (λ v a n. such v a n .shows) in
         record {
           at = at;
           variables = λ v a n. such v a n .fits;
-          holding = λ c m. sym (true-agrees s o m) ∙ i .holding c m;
-          shows = i .shows ∙ items-agree s;
+          holding = sym (condition-agrees range s o) ∙ i .holding;
+          shows = i .shows ∙ items-agree range s;
         }
 
-    pub fits-query-answer : {row : Row} → FitsQuery b o rs row → InAnswer b o rs row
+    pub fits-query-answer : {row : Row} → FitsQuery b o q row → InAnswer b o q row
     fits-query-answer f =
-        let picks : ℕ → Row = λ v. map (f .at v) (members ATTRIBUTES (attributesNamed rs v)) in
-        let s : AgreeOnNames rs (cellsOf rs picks) (f .at) = shown-agree range (λ v a n. refl) in
+        let picks : ℕ → Row = λ v. map (f .at v) (members ATTRIBUTES (attributesNamed q v)) in
+        let s : AgreeOnNames q (cellsOf q picks) (f .at) = shown-agree range (λ v a n. refl) in
         record {
           picks = picks;
           connected = λ v a n. fits-connection (record { fits = f .variables v a n; shows = refl });
-          holding = λ c m. true-agrees s o m ∙ f .holding c m;
-          shows = f .shows ∙ sym (items-agree s);
+          holding = condition-agrees range s o ∙ f .holding;
+          shows = f .shows ∙ sym (items-agree range s);
         }

@@ -16,15 +16,13 @@ use lib.ListN.{length, getD}
 use Rattle.sets.specs.Sets.{isEmpty}
 use Rattle.sets.proofs.Sets.{isEmpty-no, no-isEmpty}
 use Rattle.sets.proofs.Tests.{yes-no}
-use Rattle.records.specs.declared.Record.{Record}
 use Rattle.relation.specs.Tables.{Row}
 use Rattle.relation.specs.Joins.{together}
 use Rattle.relation.proofs.Tables.{map-same}
 use Rattle.book.specs.Reading.{Outcome, read}
 use Rattle.scheme.specs.Statements.{LeavesOut, ended, kept, out}
-use Rattle.query.specs.Asking.{attributesNamed}
-use Rattle.query.specs.Accepting.{NamedIn}
-use Rattle.query.proofs.Theorems.{records-ask}
+use Rattle.query.specs.Asking.{Asking, Named, attributesNamed}
+use Rattle.query.proofs.Theorems.{attributes-are}
 use Rattle.connection.specs.Connection.{objectsFor}
 use Rattle.connection.specs.Answers.{shownTables, Combination, combined}
 use Rattle.connection.specs.Order.{Way, waysOf, withAttributes, variablesNamed, setsNamed}
@@ -96,19 +94,19 @@ four-ascending =
     ascending-cons (omega arith) (ascending-cons (omega arith) (ascending-cons (omega arith)
     (more (λ y m. absurd (List·Memᴰ·not-nil m)) none)))
 
-module _ (rs : List Record) where
-  named-ascending : InOrder _<_ (variablesNamed rs)
-  named-ascending = order-leaves-out (with-leaves (attributesNamed rs) variables) four-ascending
+module _ (q : Asking) where
+  named-ascending : InOrder _<_ (variablesNamed q)
+  named-ascending = order-leaves-out (with-leaves (attributesNamed q) variables) four-ascending
 
-  of-named : {v : ℕ} → List·Memᴰ v (variablesNamed rs) → (a : ℕ) × NamedIn rs v a
+  of-named : {v : ℕ} → List·Memᴰ v (variablesNamed q) → (a : ℕ) × Named q v a
   of-named {v} m =
-      let (a, i) = no-isEmpty (attributesNamed rs v) (with-only (attributesNamed rs) variables m .1) in
-      (a, records-ask rs .attributes v a .0 i)
+      let (a, i) = no-isEmpty (attributesNamed q v) (with-only (attributesNamed q) variables m .1) in
+      (a, attributes-are q .attributes v a .0 i)
 
-  named-has : {v a : ℕ} → NamesInRange rs → NamedIn rs v a → List·Memᴰ v (variablesNamed rs)
+  named-has : {v a : ℕ} → NamesInRange q → Named q v a → List·Memᴰ v (variablesNamed q)
   named-has {v} {a} range n =
-      with-has (attributesNamed rs) variables (four v (range .each v a n .0))
-      (isEmpty-no (records-ask rs .attributes v a .1 n))
+      with-has (attributesNamed q) variables (four v (range .each v a n .0))
+      (isEmpty-no (attributes-are q .attributes v a .1 n))
     where
       four : (v : ℕ) → v < 4 → List·Memᴰ v variables
       four = of-four (λ v. List·Memᴰ v variables) (List·Memᴰ·head refl) (List·Memᴰ·tail (List·Memᴰ·head refl))
@@ -173,20 +171,20 @@ same-map f g {vs = u ∷ vs} e (List·Memᴰ·tail m) = same-map f g (ap tail e)
 
 -- ---- which they are
 
-module _ (b : List ℕ) (rs : List Record) where
+module _ (b : List ℕ) (q : Asking) where
   -- c is what a combination picks
   abbrev pub PickedBy : List Way → Type 0
-  PickedBy c = (p : Combination b (read b) rs) × (c ≡ waysPicked rs p)
+  PickedBy c = (p : Combination b (read b) q) × (c ≡ waysPicked q p)
 
-  pub of-combinations : NamesInRange rs → {c : List Way}
-      → List·Memᴰ c (combinationsOf b (read b) (setsNamed rs)) → PickedBy c
+  pub of-combinations : NamesInRange q → {c : List Way}
+      → List·Memᴰ c (combinationsOf b (read b) (setsNamed q)) → PickedBy c
   unfolding combinationsOf waysPicked
   of-combinations range m =
-      let e = of-each-map (attributesNamed rs) (variablesNamed rs) (of-picks (waysOf b (read b)) (setsNamed rs) m) in
-      let P : ℕ → Way → Type 0 = λ v w. List·Memᴰ w (waysOf b (read b) (attributesNamed rs v)) in
-      let h = each-had P (record { object = 0; rows = [] }) (named-ascending rs) e in
-      let is : (v a : ℕ) → NamedIn rs v a → IsWay b (attributesNamed rs v) (h .thing v) =
-      λ v a n. of-ways b (attributesNamed rs v) (h .such v (named-has rs range n)) in (
+      let e = of-each-map (attributesNamed q) (variablesNamed q) (of-picks (waysOf b (read b)) (setsNamed q) m) in
+      let P : ℕ → Way → Type 0 = λ v w. List·Memᴰ w (waysOf b (read b) (attributesNamed q v)) in
+      let h = each-had P (record { object = 0; rows = [] }) (named-ascending q) e in
+      let is : (v a : ℕ) → Named q v a → IsWay b (attributesNamed q v) (h .thing v) =
+      λ v a n. of-ways b (attributesNamed q v) (h .such v (named-has q range n)) in (
         record {
           object = λ v. h .thing v .object;
           rows = λ v. h .thing v .rows;
@@ -197,37 +195,37 @@ module _ (b : List ℕ) (rs : List Record) where
         h .listed,
       )
 
-  pub combinations-have : (p : Combination b (read b) rs)
-      → List·Memᴰ (waysPicked rs p) (combinationsOf b (read b) (setsNamed rs))
+  pub combinations-have : (p : Combination b (read b) q)
+      → List·Memᴰ (waysPicked q p) (combinationsOf b (read b) (setsNamed q))
   unfolding combinationsOf waysPicked
   combinations-have p =
       picks-have (waysOf b (read b))
-      (each-of (λ X w. List·Memᴰ w (waysOf b (read b) X)) (attributesNamed rs)
-      (λ v. record { object = p .object v; rows = p .rows v }) (variablesNamed rs)
+      (each-of (λ X w. List·Memᴰ w (waysOf b (read b) X)) (attributesNamed q)
+      (λ v. record { object = p .object v; rows = p .rows v }) (variablesNamed q)
       (λ v m.
-      let (a, n) = of-named rs m in
-      ways-have b (attributesNamed rs v)
+      let (a, n) = of-named q m in
+      ways-have b (attributesNamed q v)
       (record { there = p .there v a n; contains = p .contains v a n; picked = p .picked v a n })))
 
   -- ---- the rows that they give
 
-  module _ (range : NamesInRange rs) where
+  module _ (range : NamesInRange q) where
     -- combinations that pick the same have the same cells at names
-    same-cells : (p q : Combination b (read b) rs) → waysPicked rs p ≡ waysPicked rs q
-        → AgreeOnNames rs (combined b (read b) rs p) (combined b (read b) rs q)
+    same-cells : (p z : Combination b (read b) q) → waysPicked q p ≡ waysPicked q z
+        → AgreeOnNames q (combined b (read b) q p) (combined b (read b) q z)
     unfolding waysPicked combined
-    same-cells p q e = record {
+    same-cells p z e = record {
       each = λ v a n.
-          ap (λ (w : Way). together (shownTables b (read b) (w .object) (attributesNamed rs v)) (w .rows) a)
+          ap (λ (w : Way). together (shownTables b (read b) (w .object) (attributesNamed q v)) (w .rows) a)
           (same-map (λ u. record { object = p .object u; rows = p .rows u })
-          (λ u. record { object = q .object u; rows = q .rows u }) e (named-has rs range n));
+          (λ u. record { object = z .object u; rows = z .rows u }) e (named-has q range n));
     }
 
-    pub one-row : {c : List Way} {row other : Row} → GivesRow b (read b) rs c row → GivesRow b (read b) rs c other
+    pub one-row : {c : List Way} {row other : Row} → GivesRow b (read b) q c row → GivesRow b (read b) q c other
         → row ≡ other
     one-row g h =
         let s = same-cells (g .combination) (h .combination) (sym (g .picked) ∙ h .picked) in
-        g .shows ∙ items-agree s ∙ sym (h .shows)
+        g .shows ∙ items-agree range s ∙ sym (h .shows)
 
 -- ---- their order
 

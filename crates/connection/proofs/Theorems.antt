@@ -1,6 +1,6 @@
 -- The theorems of `Statements`, then those of `Outcomes`, each in its order.
 -- Assumes nothing.
-use mathlib.Core.Path.{_≡_, refl, _∙_}
+use mathlib.Core.Path.{_≡_, refl, sym, _∙_, subst}
 use mathlib.Core.List.{List, List·Memᴰ, Memᴰ·cast}
 use Prim.Native.Nat.{ℕ}
 use lib.ListN.{length-map}
@@ -10,15 +10,17 @@ use Rattle.reduction.specs.Statements.{OfAttributes}
 use Rattle.values.specs.Statements.{OperatorsMean}
 use Rattle.values.proofs.Theorems.{operators-mean}
 use Rattle.reduction.proofs.Kept.{one-kept}
-use Rattle.records.specs.declared.Record.{Record}
 use Rattle.scheme.specs.Growing.{familyOf, attributesOf}
 use Rattle.scheme.specs.OfScheme.{maximalOf}
 use Rattle.book.specs.Reading.{Outcome, read}
 use Rattle.book.proofs.WellFormed.{family-of-attributes}
 use Rattle.book.proofs.Theorems.{scheme-well-formed, maximal-objects-of-book}
-use Rattle.query.specs.Asking.{itemsOf}
-use Rattle.connection.specs.Statements.{NamesInRange, ConnectionListed, AnswerListed, AnswerInRange, CombinationsGive}
-use Rattle.connection.specs.Statements.{AnswerFits, OneKeptSet, ComparisonMeans}
+use Rattle.query.specs.declared.Comparison.{Comparison}
+use Rattle.query.specs.Asking.{conjunction, Asking}
+use Rattle.query.proofs.Asking.{conjunction-of}
+use Rattle.connection.specs.Statements.{NamesInRange, ConnectionListed, AnswerListed, AnswerInRange}
+use Rattle.connection.specs.Statements.{CombinationsGive}
+use Rattle.connection.specs.Statements.{AnswerFits, OneKeptSet, ComparisonMeans, ConditionMeans}
 use Rattle.connection.specs.Answers.{Cells, kindOf, kindAt, rightCell, isTrue, itemKinds}
 use Rattle.connection.specs.Statements.{CombinationsCounted, CombinationsListed, CombinationsOrdered}
 use Rattle.connection.specs.Order.{waysPicked}
@@ -30,6 +32,7 @@ use Rattle.connection.proofs.Connected.{of-connection, connection-has}
 use Rattle.connection.proofs.Fitted.{part-fits, fits-part, answer-fits-query, fits-query-answer}
 use Rattle.connection.proofs.Answered.{answer-rows, answer-ascending, answer-rows-of-kinds, only-answer}
 use Rattle.connection.proofs.Answered.{answer-rows-ranged}
+use Rattle.connection.proofs.Choices.{meets-each, each-meets}
 use Rattle.connection.proofs.Combined.{answer-combined, combined-answer}
 use Rattle.connection.proofs.Order.{combinations-size, of-combinations, combinations-have, one-row}
 use Rattle.connection.proofs.Order.{combinations-once, combinations-in-order, combinations-only}
@@ -41,7 +44,7 @@ use Rattle.connection.proofs.Outcomes.{cells-as-many, rows-in-front, ce
 
 -- ---- names: those of a query that was read over a book are in range, whatever its number
 
-pub names-in-range : (b q : List ℕ) → NamesInRange (queryRead (read b) q .records)
+pub names-in-range : (b q : List ℕ) → NamesInRange (queryRead (read b) q .asking)
 names-in-range b q = read-in-range (read b .scheme) (maximalOf (read b .scheme)) q
 
 -- the sets of a book's objects are sets of attributes
@@ -57,18 +60,18 @@ connection-listed b X = record {
 
 -- ---- answer rows
 
-pub answer-listed : (b : List ℕ) (rs : List Record) → NamesInRange rs → AnswerListed b rs
-answer-listed b rs range = record {
-  rows = answer-rows b (bounded b) rs range;
-  ascending = answer-ascending b (bounded b) rs range;
-  ofKinds = answer-rows-of-kinds b (bounded b) rs range;
-  only = only-answer b (bounded b) rs range;
+pub answer-listed : (b : List ℕ) (q : Asking) → NamesInRange q → AnswerListed b q
+answer-listed b q range = record {
+  rows = answer-rows b (bounded b) q range;
+  ascending = answer-ascending b (bounded b) q range;
+  ofKinds = answer-rows-of-kinds b (bounded b) q range;
+  only = only-answer b (bounded b) q range;
 }
 
 -- ---- cells in range
 
-pub answer-in-range : (b : List ℕ) (rs : List Record) → NamesInRange rs → AnswerInRange b rs
-answer-in-range b rs range = record { each = answer-rows-ranged b (bounded b) rs range }
+pub answer-in-range : (b : List ℕ) (q : Asking) → NamesInRange q → AnswerInRange b q
+answer-in-range b q range = record { each = answer-rows-ranged b (bounded b) q range }
 
 -- ---- comparisons
 
@@ -79,10 +82,21 @@ comparison-means o at = record {
   constant = λ x v a cell. operators-mean x (kindAt o a) (kindAt o a) (at v a) cell;
 }
 
+pub condition-means : (o : Outcome) (at : Cells) → ConditionMeans o at
+condition-means o at = record {
+  all = λ cs. (
+    λ e c m.
+        meets-each o at (conjunction cs) e c
+        (subst (λ (l : List Comparison). List·Memᴰ c l) (sym (conjunction-of cs)) m),
+    λ h. each-meets o at (conjunction cs) (λ c m.
+        h c (subst (λ (l : List Comparison). List·Memᴰ c l) (conjunction-of cs) m)),
+  );
+}
+
 -- ---- combinations
 
-pub combinations-give : (b : List ℕ) (rs : List Record) → NamesInRange rs → CombinationsGive b rs
-combinations-give b rs range = record {
+pub combinations-give : (b : List ℕ) (q : Asking) → NamesInRange q → CombinationsGive b q
+combinations-give b q range = record {
   rows = λ row. (answer-combined b (read b) (bounded b) range, combined-answer b (read b) (bounded b) range);
 }
 
@@ -91,24 +105,24 @@ combinations-give b rs range = record {
 pub combinations-counted : (b : List ℕ) (o : Outcome) (Xs : List ℕ) → CombinationsCounted b o Xs
 combinations-counted b o Xs = record { size = combinations-size b o Xs }
 
-pub combinations-listed : (b : List ℕ) (rs : List Record) → NamesInRange rs → CombinationsListed b rs
-combinations-listed b rs range = record {
+pub combinations-listed : (b : List ℕ) (q : Asking) → NamesInRange q → CombinationsListed b q
+combinations-listed b q range = record {
   each = λ c. (
-    of-combinations b rs range,
-    λ (p, e). Memᴰ·cast e (combinations-have b rs p),
+    of-combinations b q range,
+    λ (p, e). Memᴰ·cast e (combinations-have b q p),
   );
   rows = λ row. (
     λ m.
-        let (p, passes, e) = combinations-give b rs range .rows row .0 (answer-listed b rs range .rows row .0 m) in (
-          waysPicked rs p,
-          combinations-have b rs p,
+        let (p, passes, e) = combinations-give b q range .rows row .0 (answer-listed b q range .rows row .0 m) in (
+          waysPicked q p,
+          combinations-have b q p,
           record { combination = p; picked = refl; passes = passes; shows = e },
         ),
     λ (c, m, g).
-        answer-listed b rs range .rows row .1
-        (combinations-give b rs range .rows row .1 (g .combination, g .passes, g .shows)),
+        answer-listed b q range .rows row .1
+        (combinations-give b q range .rows row .1 (g .combination, g .passes, g .shows)),
   );
-  oneRow = λ c row other. one-row b rs range;
+  oneRow = λ c row other. one-row b q range;
 }
 
 pub combinations-ordered : (b : List ℕ) (Xs : List ℕ) → CombinationsOrdered b Xs
@@ -120,8 +134,8 @@ combinations-ordered b Xs = record {
 
 -- ---- cells that fit
 
-pub answer-fits : (b : List ℕ) (rs : List Record) → NamesInRange rs → AnswerFits b rs
-answer-fits b rs range = record {
+pub answer-fits : (b : List ℕ) (q : Asking) → NamesInRange q → AnswerFits b q
+answer-fits b q range = record {
   rows = λ row. (answer-fits-query b (read b) (bounded b) range, fits-query-answer b (read b) (bounded b) range);
 }
 
@@ -150,8 +164,8 @@ answer-number-means b q serial room = record {
 rows-wide : (b q : List ℕ) → AllWide (itemCount b q) (rowsAnswered b q)
 unfolding rowsAnswered itemKinds
 rows-wide b q r m =
-    let rs : List Record = queryRead (read b) q .records in
-    answer-listed b rs (names-in-range b q) .ofKinds .each r m .wide ∙ length-map (itemsOf rs) (kindOf (read b))
+    let k : Asking = queryRead (read b) q .asking in
+    answer-listed b k (names-in-range b q) .ofKinds .each r m .wide ∙ length-map (k .items) (kindOf (read b))
 
 pub demand1 : (b q : List ℕ) (serial : ℕ) (space : List ℕ) → Demand1 b q serial space
 demand1 b q serial space = record {

@@ -9,17 +9,14 @@ use Prim.Native.Nat.{ℕ, _<_}
 use lib.ListN.{getD}
 use Rattle.sets.specs.Sets.{_∈_, _⊆_, ATTRIBUTES}
 use Rattle.values.specs.Values.{missing}
-use Rattle.records.specs.declared.Record.{Record}
 use Rattle.relation.specs.Tables.{Row, cellOf, Table}
 use Rattle.scheme.specs.Growing.{attributesOf}
 use Rattle.scheme.specs.OfScheme.{maximalOf}
 use Rattle.book.specs.Reading.{Outcome}
 use Rattle.book.specs.TablesOf.{rowsOf}
-use Rattle.query.specs.declared.Comparison.{Comparison}
-use Rattle.query.specs.Asking.{itemsOf, comparisonsOf, attributesNamed}
-use Rattle.query.specs.Accepting.{NamedIn}
+use Rattle.query.specs.Asking.{Asking, Named, attributesNamed}
 use Rattle.scheme.specs.KeptSets.{keptFor, Shows}
-use Rattle.connection.specs.Answers.{Cells, itemCells, isTrue}
+use Rattle.connection.specs.Answers.{Cells, itemCells, meets}
 
 -- ---- cells that fit a maximal object
 
@@ -50,8 +47,8 @@ pub record FitsVariable (b : List ℕ) (o : Outcome) (X : ℕ) (at : ℕ → ℕ
   pub contains : X ⊆ attributesOf (o .scheme .sets) object
   pub fits : FitsObject b o object X at
 
-pub record FitsQuery (b : List ℕ) (o : Outcome) (rs : List Record) (row : Row) : Type 0 where
+pub record FitsQuery (b : List ℕ) (o : Outcome) (q : Asking) (row : Row) : Type 0 where
   pub at : Cells
-  pub variables : (v a : ℕ) → NamedIn rs v a → FitsVariable b o (attributesNamed rs v) (at v)
-  pub holding : (c : Comparison) → List·Memᴰ c (comparisonsOf rs) → isTrue o c at ≡ true
-  pub shows : row ≡ itemCells (itemsOf rs) at
+  pub variables : (v a : ℕ) → Named q v a → FitsVariable b o (attributesNamed q v) (at v)
+  pub holding : meets o (q .condition) at ≡ true
+  pub shows : row ≡ itemCells (q .items) at

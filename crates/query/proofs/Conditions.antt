@@ -9,7 +9,6 @@ use Prim.Native.Nat.{ℕ, _≤_}
 use native.Mathlib.Omega.{arith}
 use borrow.Author.Tests.{eqb-true, not-false}
 use lib.Dec.{eqb}
-use lib.ListN.{length}
 use Rattle.sets.proofs.Tests.{yes-no}
 use Rattle.records.specs.Checks.{firstOf, First}
 use Rattle.records.specs.Records.{whose, isKind, ofQuery, kindOf}
@@ -22,40 +21,41 @@ use Rattle.records.proofs.Checks.{EachNumber, first-number, Agree, ended, next,
 use Rattle.records.proofs.Checks.{same-true, same-not, same-or}
 use Rattle.records.proofs.Checks.{same-lt, same-le, same-absent}
 use Rattle.scheme.specs.declared.Scheme.{Scheme}
-use Rattle.query.specs.Asking.{itemsOf, comparisonsOf}
+use Rattle.query.specs.declared.Asked.{Asked}
+use Rattle.query.specs.Asking.{asks, askedOf}
 use Rattle.query.specs.Faults.{checks, faultOf}
 use Rattle.query.specs.Conditions.{conditions}
 use Rattle.query.specs.Reading.{queryRules}
 
 -- ---- each kind
 
-agrees : (s : Scheme) (items comparisons : ℕ) (r : Record)
-    → Agree (checks s items comparisons r) (conditions s items comparisons r)
+agrees : (s : Scheme) (asked : Asked) (r : Record)
+    → Agree (checks s asked r) (conditions s asked r)
 unfolding checks conditions
-agrees s items comparisons (OfBook r) = next same-always ended
-agrees s items comparisons (OfQuery (Item v a)) =
+agrees s asked (OfBook r) = next same-always ended
+agrees s asked (OfQuery (Item v a)) =
     next (same-le _ _) (next (same-or (same-lt _ _) (same-lt _ _)) (next (same-absent _ _) ended))
-agrees s items comparisons (OfQuery (CompareTwo v a operator v2 a2)) =
+agrees s asked (OfQuery (CompareTwo v a operator v2 a2)) =
     next (same-le _ _)
     (next (same-or (same-lt _ _) (same-or (same-lt _ _) (same-or (same-lt _ _) (same-or (same-lt _ _) (same-lt _ _)))))
     (next (same-or (same-absent _ _) (same-absent _ _)) (next (same-not _) ended)))
-agrees s items comparisons (OfQuery (CompareConstant v a operator cell)) =
+agrees s asked (OfQuery (CompareConstant v a operator cell)) =
     next (same-le _ _)
     (next (same-or (same-lt _ _) (same-or (same-lt _ _) (same-lt _ _)))
     (next (same-absent _ _) (next (same-not _) (next (same-not _) (next (same-true _) ended)))))
-agrees s items comparisons (OfQuery End) = ended
+agrees s asked (OfQuery End) = ended
 
 -- ---- the first
 
-pub fault-first : (s : Scheme) (items comparisons : ℕ) (r : Record)
-    → First (conditions s items comparisons r) (faultOf s items comparisons r)
+pub fault-first : (s : Scheme) (asked : Asked) (r : Record)
+    → First (conditions s asked r) (faultOf s asked r)
 unfolding faultOf
-fault-first s items comparisons r = first-agrees (agrees s items comparisons r)
+fault-first s asked r = first-agrees (agrees s asked r)
 
-pub first-fault : (s : Scheme) (items comparisons : ℕ) (r : Record) {n : ℕ} → First (conditions s items comparisons r) n
-    → faultOf s items comparisons r ≡ n
-first-fault s items comparisons r f =
-    first-unique (conditions s items comparisons r) (fault-first s items comparisons r) f
+pub first-fault : (s : Scheme) (asked : Asked) (r : Record) {n : ℕ} → First (conditions s asked r) n
+    → faultOf s asked r ≡ n
+first-fault s asked r f =
+    first-unique (conditions s asked r) (fault-first s asked r) f
 
 -- ---- the numbers of faults: "for each record 2, 3, 4, 5, 7 as above", and 11
 
@@ -67,21 +67,21 @@ pub data FaultNumber : ℕ → Type 0 where
   seven : FaultNumber 7
   eleven : FaultNumber 11
 
-numbered : (s : Scheme) (items comparisons : ℕ) (r : Record) → EachNumber FaultNumber (conditions s items comparisons r)
+numbered : (s : Scheme) (asked : Asked) (r : Record) → EachNumber FaultNumber (conditions s asked r)
 unfolding EachNumber conditions
-numbered s items comparisons (OfBook r) = (two, tt)
-numbered s items comparisons (OfQuery (Item v a)) = (four, (five, (seven, tt)))
-numbered s items comparisons (OfQuery (CompareTwo v a operator v2 a2)) = (four, (five, (seven, (eleven, tt))))
-numbered s items comparisons (OfQuery (CompareConstant v a operator cell)) =
+numbered s asked (OfBook r) = (two, tt)
+numbered s asked (OfQuery (Item v a)) = (four, (five, (seven, tt)))
+numbered s asked (OfQuery (CompareTwo v a operator v2 a2)) = (four, (five, (seven, (eleven, tt))))
+numbered s asked (OfQuery (CompareConstant v a operator cell)) =
     (four, (five, (seven, (eleven, (five, (five, tt))))))
-numbered s items comparisons (OfQuery End) = tt
+numbered s asked (OfQuery End) = tt
 
-pub fault-number : (s : Scheme) (items comparisons : ℕ) (r : Record) → (faultOf s items comparisons r ≡ 0 → ⊥)
-    → FaultNumber (faultOf s items comparisons r)
-fault-number s items comparisons r d =
-    first-number FaultNumber (conditions s items comparisons r) (faultOf s items comparisons r)
-    (numbered s items comparisons r)
-    (fault-first s items comparisons r) d
+pub fault-number : (s : Scheme) (asked : Asked) (r : Record) → (faultOf s asked r ≡ 0 → ⊥)
+    → FaultNumber (faultOf s asked r)
+fault-number s asked r d =
+    first-number FaultNumber (conditions s asked r) (faultOf s asked r)
+    (numbered s asked r)
+    (fault-first s asked r) d
 
 pub fault-splits : {n : ℕ} → FaultNumber n → ((2 ≤ n) × (n ≤ 7)) ⊎ (n ≡ 11)
 fault-splits two = inl (omega arith)
@@ -99,14 +99,14 @@ unfolding isKind ofQuery
 no-kind-no-query k e = ap (λ (w : ℕ). eqb w 2) (eqb-true (whose k) 0 (not-false (eqb (whose k) 0) e))
 
 -- a record of another kind has the fault 2
-fault-not-of-query : (s : Scheme) (items comparisons : ℕ) (r : Record) → ofQuery (kindOf r) ≡ false
-    → faultOf s items comparisons r ≡ 2
+fault-not-of-query : (s : Scheme) (asked : Asked) (r : Record) → ofQuery (kindOf r) ≡ false
+    → faultOf s asked r ≡ 2
 unfolding faultOf checks firstOf
-fault-not-of-query s items comparisons (OfBook r) e = refl
-fault-not-of-query s items comparisons (OfQuery r) e = absurd (yes-no (of-query-kind r) e)
+fault-not-of-query s asked (OfBook r) e = refl
+fault-not-of-query s asked (OfQuery r) e = absurd (yes-no (of-query-kind r) e)
 
 pub query-sound : (s : Scheme) → Sound (queryRules s)
 query-sound s = record {
   known = no-kind-no-query;
-  others = λ rs r e. fault-not-of-query s (length (itemsOf rs)) (length (comparisonsOf rs)) r e;
+  others = λ rs r e. fault-not-of-query s (askedOf (asks rs)) r e;
 }

@@ -27,7 +27,7 @@ use Rattle.query.specs.declared.Comparison.{Comparison}
 use Rattle.query.specs.declared.Asked.{Asked}
 use Rattle.query.specs.declared.Query.{Query}
 use Rattle.query.specs.Asking.{itemOf, itemsOf, comparisonOf, comparisonsOf, nameOf, namesOf, naming}
-use Rattle.query.specs.Asking.{attributesNamed, filled, askedOf}
+use Rattle.query.specs.Asking.{comparisonsIn, conjunction, attributesNamed, filled, askedOf}
 use Rattle.query.specs.Faults.{checks, faultOf}
 use Rattle.query.specs.Reading.{isEnd, walkQuery, containing, unconnected, someUnconnected, wholeNumber}
 use Rattle.query.specs.Reading.{atEnd, read, queryOf}
@@ -260,7 +260,7 @@ unfolding trials book comparing ofClub oneWay maximals good eightOfTwo eightWith
     fieldsOf
     askedBy asks flatMap queryOf read atEnd wholeNumber someUnconnected unconnected isNil containing walkQuery isEnd
     kindOf
-    faultOf checks ofQuery askedOf filled attributesNamed naming namesOf nameOf comparisonsOf comparisonOf itemsOf
+    faultOf checks ofQuery askedOf comparisonsIn conjunction filled attributesNamed naming namesOf nameOf comparisonsOf comparisonOf itemsOf
     itemOf shortNumber walkFrom walk firstOf readAt readFront recordOf bodies bytesOfAll bytesOf bodyLength isKind whose
     kinds field value bytes attributesOf familyOf union allows builtIn missing inRange members isEmpty single _∪_ within
     has bit

@@ -6,7 +6,7 @@ use mathlib.Core.Path.{_≡_, refl, ap, subst}
 use mathlib.Core.Bool.{true}
 use mathlib.Core.Logic.{⊎-elim}
 use mathlib.Core.List.{List, [], _∷_, _++_}
-use mathlib.Core.List.{List·Memᴰ·not-nil, List·Memᴰ·append-cases, List·Memᴰ·eq-of-singleton}
+use mathlib.Core.List.{List·Memᴰ, List·Memᴰ·not-nil, List·Memᴰ·append-cases}
 use Prim.Native.Nat.{ℕ, _+_, _≤_, _<_}
 use native.Mathlib.Omega.{arith}
 use lib.ListN.{length, length-append}
@@ -19,12 +19,16 @@ use Rattle.records.specs.declared.Record.the-variants.{OfBook, OfQuery}
 use Rattle.records.specs.declared.QueryRecord.the-variants.{Item, CompareTwo, CompareConstant, End}
 use Rattle.records.proofs.Checks.{none-first}
 use Rattle.scheme.specs.declared.Scheme.{Scheme}
-use Rattle.query.specs.Asking.{itemOf, itemsOf, comparisonOf, comparisonsOf}
+use Rattle.query.specs.declared.Asked.{Asked}
+use Rattle.query.specs.declared.QueryItem.{QueryItem}
+use Rattle.query.specs.Asking.{itemOf, itemsOf, comparisonOf, comparisonsOf, comparisonsIn, conjunction, Named}
+use Rattle.query.specs.Asking.{namesOf, pair, asks, askedOf}
 use Rattle.query.specs.Faults.{checks, faultOf}
 use Rattle.query.specs.Reading.{queryRules}
 use Rattle.query.proofs.Asking.{NewName, item-accepted, two-accepted, constant-accepted, items-more}
-use Rattle.query.proofs.Asking.{comparisons-more}
-use Rattle.query.specs.Accepting.{Names, item, left, right, ofConstant, NamedIn, Accepted}
+use Rattle.query.proofs.Asking.{comparisons-more, names-more, conjunction-of}
+use Rattle.query.proofs.Names.{in-name}
+use Rattle.query.specs.Accepting.{Names, item, left, right, ofConstant, Accepted}
 
 -- ---- a record without a fault
 
@@ -33,10 +37,10 @@ pub record NameInRange (v a : ℕ) : Type 0 where
   pub variable : v < 4
   pub attribute : a < ATTRIBUTES
 
--- a record without a fault, behind so many items and comparisons
-record Fitting (items comparisons : ℕ) (r : Record) : Type 0 where
-  itemsFit : items ≤ 8 → items + length (itemOf r) ≤ 8
-  comparisonsFit : comparisons ≤ 16 → comparisons + length (comparisonOf r) ≤ 16
+-- a record without a fault, behind what was asked
+record Fitting (asked : Asked) (r : Record) : Type 0 where
+  itemsFit : asked .retrieved ≤ 8 → asked .retrieved + length (itemOf r) ≤ 8
+  comparisonsFit : asked .compared ≤ 16 → asked .compared + length (comparisonOf r) ≤ 16
   namesFit : {v a : ℕ} → Names v a r → NameInRange v a
 
 -- a record that is no query's has a fault
@@ -46,12 +50,11 @@ other-faulty e = absurd (yes-no refl (none-first true 2 [] (λ z. omega arith) e
 name-in-range : {before bound v a : ℕ} → NewName before bound v a → NameInRange v a
 name-in-range n = record { variable = n .variable; attribute = n .attribute }
 
-fitting : (s : Scheme) (items comparisons : ℕ) (r : Record) → faultOf s items comparisons r ≡ 0
-    → Fitting items comparisons r
+fitting : (s : Scheme) (asked : Asked) (r : Record) → faultOf s asked r ≡ 0 → Fitting asked r
 unfolding faultOf checks itemOf comparisonOf
-fitting s items comparisons (OfBook r) e = other-faulty e
-fitting s items comparisons (OfQuery (Item v a)) e =
-    let n = item-accepted s items comparisons v a e in
+fitting s asked (OfBook r) e = other-faulty e
+fitting s asked (OfQuery (Item v a)) e =
+    let n = item-accepted s asked v a e in
     record {
       itemsFit = λ h. omega (arith, n .room);
       comparisonsFit = λ h. omega arith;
@@ -60,8 +63,8 @@ fitting s items comparisons (OfQuery (Item v a)) e =
   where
     named : {w b : ℕ} → Names w b (OfQuery (Item v a)) → NameInRange v a → NameInRange w b
     named item n = n
-fitting s items comparisons (OfQuery (CompareTwo v a operator v2 a2)) e =
-    let n = two-accepted s items comparisons v a operator v2 a2 e in
+fitting s asked (OfQuery (CompareTwo v a operator v2 a2)) e =
+    let n = two-accepted s asked v a operator v2 a2 e in
     record {
       itemsFit = λ h. omega arith;
       comparisonsFit = λ h. omega (arith, n .0 .room);
@@ -72,8 +75,8 @@ fitting s items comparisons (OfQuery (CompareTwo v a operator v2 a2)) e =
         → NameInRange w b
     named left m n = m
     named right m n = n
-fitting s items comparisons (OfQuery (CompareConstant v a operator cell)) e =
-    let n = constant-accepted s items comparisons v a operator cell e in
+fitting s asked (OfQuery (CompareConstant v a operator cell)) e =
+    let n = constant-accepted s asked v a operator cell e in
     record {
       itemsFit = λ h. omega arith;
       comparisonsFit = λ h. omega (arith, n .room);
@@ -82,7 +85,7 @@ fitting s items comparisons (OfQuery (CompareConstant v a operator cell)) e =
   where
     named : {w b : ℕ} → Names w b (OfQuery (CompareConstant v a operator cell)) → NameInRange v a → NameInRange w b
     named ofConstant n = n
-fitting s items comparisons (OfQuery End) e = record {
+fitting s asked (OfQuery End) e = record {
   itemsFit = λ h. omega arith;
   comparisonsFit = λ h. omega arith;
   namesFit = λ n. elim n [ ];
@@ -94,27 +97,29 @@ fitting s items comparisons (OfQuery End) e = record {
 pub record Fits (rs : List Record) : Type 0 where
   pub items : length (itemsOf rs) ≤ 8
   pub comparisons : length (comparisonsOf rs) ≤ 16
-  pub named : {v a : ℕ} → NamedIn rs v a → NameInRange v a
+  pub named : {v a : ℕ} → Named (asks rs) v a → NameInRange v a
 
 fits-none : Fits []
-unfolding itemsOf comparisonsOf
+unfolding itemsOf comparisonsOf namesOf
 fits-none = record {
   items = omega arith;
   comparisons = omega arith;
-  named = λ n. absurd (List·Memᴰ·not-nil (n .there));
+  named = λ n. absurd (List·Memᴰ·not-nil n);
 }
 
-fits-one-more : {rs : List Record} {r : Record} → Fits rs → Fitting (length (itemsOf rs)) (length (comparisonsOf rs)) r
-    → Fits (rs ++ r ∷ [])
+fits-one-more : {rs : List Record} {r : Record} → Fits rs → Fitting (askedOf (asks rs)) r → Fits (rs ++ r ∷ [])
+unfolding askedOf
 fits-one-more {rs} {r} w f =
     let i : length (itemsOf rs) + length (itemOf r) ≤ 8 = f .itemsFit (w .items) in
-    let c : length (comparisonsOf rs) + length (comparisonOf r) ≤ 16 = f .comparisonsFit (w .comparisons) in
+    let e : length (comparisonsIn (conjunction (comparisonsOf rs))) ≡ length (comparisonsOf rs) =
+    ap length (conjunction-of (comparisonsOf rs)) in
+    let c : length (comparisonsOf rs) + length (comparisonOf r) ≤ 16 =
+    omega (arith, e, f .comparisonsFit (omega (arith, e, w .comparisons))) in
     record {
       items = rw items-more (simp length-append i);
       comparisons = rw comparisons-more (simp length-append c);
-      named = λ {v} {a} n. ⊎-elim (λ m. w .named (record { by = n .by; there = m; names = n .names }))
-          (λ m. f .namesFit (subst (Names v a) (List·Memᴰ·eq-of-singleton m) (n .names)))
-          (List·Memᴰ·append-cases rs (n .there));
+      named = λ {v} {a} n. ⊎-elim (λ m. w .named m) (λ m. f .namesFit (in-name r m))
+          (List·Memᴰ·append-cases (namesOf rs) (subst (λ (l : List QueryItem). List·Memᴰ (pair v a) l) (names-more rs r) n));
     }
 
 module _ (s : Scheme) {b : List ℕ} where
@@ -126,7 +131,7 @@ module _ (s : Scheme) {b : List ℕ} where
   state-fits : {rs st : List Record} {at : ℕ} → Walking.Accepted (queryRules s) b [] rs st at → Fits st
   state-fits Walking.none = fits-none
   state-fits (Walking.one {s = st} {r = r} a e f l) =
-      fits-one-more (state-fits a) (fitting s (length (itemsOf st)) (length (comparisonsOf st)) r f)
+      fits-one-more (state-fits a) (fitting s (askedOf (asks st)) r f)
 
   pub accepted-records-fit : {rs : List Record} {at : ℕ} → Accepted s b rs at → Fits rs
   accepted-records-fit a = state-fits (a .walked)

@@ -29,12 +29,12 @@ use Rattle.scheme.proofs.Lists.{Asks, NoneSoFar, none-start, none-found, none-n
 use Rattle.query.specs.declared.Asked.{Asked}
 use Rattle.query.specs.declared.Walked.{Walked}
 use Rattle.query.specs.declared.Query.{Query}
-use Rattle.query.specs.Asking.{itemsOf, comparisonsOf, askedOf, nothingAsked, withRecord}
+use Rattle.query.specs.Asking.{asks, askedOf, nothingAsked, withRecord}
 use Rattle.query.specs.Faults.{faultOf}
 use Rattle.query.specs.Reading.{isEnd, queryRules, walkQuery, stopNumber, walkedOf, containing}
 use Rattle.query.specs.Reading.{unconnected}
 use Rattle.query.specs.Reading.{someUnconnected, wholeNumber, read, queryOf}
-use Rattle.query.proofs.Asking.{asked-nothing, asked-record, asked-end, last-is-end}
+use Rattle.query.proofs.Asking.{asked-nothing, asked-record, asks-end, last-is-end}
 use Rattle.query.proofs.Outcomes.{after-fault, after-end, end-fault, end-good, read-over, read-within}
 
 -- ---- numbers where no whole record stands
@@ -50,44 +50,42 @@ short-no k n = ap (λ (b : Bool). elim b [ true ↦ 3 | false ↦ 2 ]) (sym n)
 -- ---- the walk over the records
 
 -- the end of a query asks nothing
-asked-last : (rs : List Record) (r : Record) → isEnd r ≡ true → askedOf rs ≡ askedOf (rs ++ r ∷ [])
-asked-last rs r l = asked-end rs ∙ ap (λ (x : Record). askedOf (rs ++ x ∷ [])) (sym (last-is-end r l))
+asked-last : (rs : List Record) (r : Record) → isEnd r ≡ true → askedOf (asks rs) ≡ askedOf (asks (rs ++ r ∷ []))
+asked-last rs r l = ap askedOf (sym (asks-end rs)) ∙ ap (λ (x : Record). askedOf (asks (rs ++ x ∷ []))) (sym (last-is-end r l))
 
 -- the records passed are accepted, and the code has what they ask
 pub record Walking (s : Scheme) (b : List ℕ) (q : Asked) (at : ℕ) : Type 0 where
   pub passed : List Record
   pub accepted : Walks.Accepted (queryRules s) b [] passed passed at
-  pub asks : q ≡ askedOf passed
+  pub same : q ≡ askedOf (asks passed)
 
 pub walking-start : (s : Scheme) (b : List ℕ) {q : Asked} → q ≡ nothingAsked → Walking s b q 0
-walking-start s b e = record { passed = []; accepted = Walks.none; asks = e ∙ asked-nothing }
+walking-start s b e = record { passed = []; accepted = Walks.none; same = e ∙ asked-nothing }
 
 module _ {s : Scheme} {b : List ℕ} {q : Asked} {at : ℕ} (v : Walking s b q at) where
   pub walking-inside : at ≤ length b
   walking-inside = accepted-inside (v .accepted)
 
-  -- the fault by the code's counts is the fault behind the records passed
-  fault-here : (r : Record) → faultOf s (q .retrieved) (q .compared) r
-      ≡ faultOf s (length (itemsOf (v .passed))) (length (comparisonsOf (v .passed))) r
-  unfolding askedOf
-  fault-here r = ap (λ (x : Asked). faultOf s (x .retrieved) (x .compared) r) (v .asks)
+  -- the fault behind what the code has is the fault behind the records passed
+  fault-here : (r : Record) → faultOf s q r ≡ faultOf s (askedOf (asks (v .passed))) r
+  fault-here r = ap (λ (x : Asked). faultOf s x r) (v .same)
 
   pub walking-next : {r : Record} {next : ℕ} (d : Asked) → readAt b at ≡ Found r next
-      → faultOf s (q .retrieved) (q .compared) r ≡ 0 → isEnd r ≡ false → d ≡ withRecord q r → Walking s b d next
+      → faultOf s q r ≡ 0 → isEnd r ≡ false → d ≡ withRecord q r → Walking s b d next
   walking-next {r} d e f l w =
       let f′ = sym (fault-here r) ∙ f in
       record {
         passed = v .passed ++ r ∷ [];
         accepted = Walks.one (v .accepted) e f′ l;
-        asks = w ∙ ap (λ (x : Asked). withRecord x r) (v .asks) ∙ asked-record s (v .passed) r f′;
+        same = w ∙ ap (λ (x : Asked). withRecord x r) (v .same) ∙ asked-record s (v .passed) r f′;
       }
 
-  walking-out : (n p : ℕ) (rs : List Record) → askedOf (v .passed) ≡ askedOf rs
+  walking-out : (n p : ℕ) (rs : List Record) → askedOf (asks (v .passed)) ≡ askedOf (asks rs)
       → walkQuery s b ≡ record { number = n; state = rs; at = p }
       → _≡_ {A = Walked} (record { refusal = n; asked = q; at = p }) (walkedOf (walkQuery s b))
   unfolding walkedOf
   walking-out n p rs same e =
-      ap {B = Walked} (λ (x : Asked). record { refusal = n; asked = x; at = p }) (v .asks ∙ same)
+      ap {B = Walked} (λ (x : Asked). record { refusal = n; asked = x; at = p }) (v .same ∙ same)
       ∙ ap walkedOf (sym e)
 
   renumbered : {n m : ℕ} → walkQuery s b ≡ record { number = m; state = v .passed; at = at } → n ≡ m
@@ -106,7 +104,7 @@ module _ {s : Scheme} {b : List ℕ} {q : Asked} {at : ℕ} (v : Walking s b q a
   walking-unread (Found r next) e k p = absurd (miss (0 ∷ 1 ∷ 2 ∷ []) 3 tt k)
 
   pub walking-faulty : {r : Record} {next n : ℕ} → readAt b at ≡ Found r next
-      → n ≡ faultOf s (q .retrieved) (q .compared) r → (n ≡ 0 → ⊥)
+      → n ≡ faultOf s q r → (n ≡ 0 → ⊥)
       → _≡_ {A = Walked} (record { refusal = n; asked = q; at = at }) (walkedOf (walkQuery s b))
   unfolding walkQuery
   walking-faulty {r} {n = n} e p d =
@@ -114,7 +112,7 @@ module _ {s : Scheme} {b : List ℕ} {q : Asked} {at : ℕ} (v : Walking s b q a
       walking-out n at (v .passed) refl (renumbered (stops-faulty (v .accepted) e (λ z. d (p′ ∙ z))) p′)
 
   pub walking-last : {r : Record} {next : ℕ} → readAt b at ≡ Found r next
-      → faultOf s (q .retrieved) (q .compared) r ≡ 0 → isEnd r ≡ true
+      → faultOf s q r ≡ 0 → isEnd r ≡ true
       → _≡_ {A = Walked} (record { refusal = 0; asked = q; at = next }) (walkedOf (walkQuery s b))
   unfolding walkQuery
   walking-last {r} {next} e f l =
@@ -242,7 +240,7 @@ module _ (s : Scheme) (Ms b : List ℕ) where
     unfolding walkedOf
     number-is = ap (λ (x : Walked). x .refusal) e
 
-    asked-is : w .asked ≡ askedOf (walkQuery s b .state)
+    asked-is : w .asked ≡ askedOf (asks (walkQuery s b .state))
     unfolding walkedOf
     asked-is = ap (λ (x : Walked). x .asked) e
 
@@ -258,7 +256,7 @@ module _ (s : Scheme) (Ms b : List ℕ) where
         ∙ ap queryOf (sym (read-within s Ms b h ∙ after-fault s Ms (walkQuery s b) (λ z. d (number-is ∙ z))))
 
     module _ (z : w .refusal ≡ 0) {n : ℕ} (p : n ≡ wholeNumber s Ms (w .asked)) where
-      whole-is : n ≡ wholeNumber s Ms (askedOf (walkQuery s b .state))
+      whole-is : n ≡ wholeNumber s Ms (askedOf (asks (walkQuery s b .state)))
       whole-is = p ∙ ap (wholeNumber s Ms) asked-is
 
       pub query-refused : (n ≡ 0 → ⊥)
@@ -266,7 +264,7 @@ module _ (s : Scheme) (Ms b : List ℕ) where
       unfolding queryOf
       query-refused d =
           let ended = read-within s Ms b h ∙ after-end s Ms (walkQuery s b) (sym number-is ∙ z) in
-          let out = end-fault (wholeNumber s Ms (askedOf (walkQuery s b .state))) (walkQuery s b .state)
+          let out = end-fault (wholeNumber s Ms (askedOf (asks (walkQuery s b .state)))) (asks (walkQuery s b .state))
           (walkQuery s b .at) (λ y. d (whole-is ∙ y)) in
           ap₂ {C = Query} (λ (k : ℕ) (x : Asked). record { refusal = k; asked = x; read = 0 }) whole-is asked-is
           ∙ ap queryOf (sym (ended ∙ out))
@@ -276,7 +274,7 @@ module _ (s : Scheme) (Ms b : List ℕ) where
       unfolding queryOf
       query-answered y =
           let ended = read-within s Ms b h ∙ after-end s Ms (walkQuery s b) (sym number-is ∙ z) in
-          let out = end-good (wholeNumber s Ms (askedOf (walkQuery s b .state))) (walkQuery s b .state)
+          let out = end-good (wholeNumber s Ms (askedOf (asks (walkQuery s b .state)))) (asks (walkQuery s b .state))
           (walkQuery s b .at) (sym whole-is ∙ y) in
           ap {B = Query} (λ (k : ℕ). record { refusal = k; asked = w .asked; read = w .at }) y
           ∙ ap₂ {C = Query} (λ (x : Asked) (k : ℕ). record { refusal = 0; asked = x; read = k }) asked-is at-is

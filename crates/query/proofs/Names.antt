@@ -26,9 +26,11 @@ use Rattle.records.specs.declared.QueryRecord.the-variants.{Item, CompareTwo, C
 use Rattle.query.specs.declared.QueryItem.{QueryItem}
 use Rattle.query.specs.declared.Comparison.{Comparison}
 use Rattle.query.specs.Asking.{pair, itemOf, itemsOf, ofTwo, comparisonOf, comparisonsOf, nameOf, namesOf}
-use Rattle.query.specs.Asking.{naming, attributesNamed, filled, askedOf}
+use Rattle.query.specs.Asking.{naming, comparisonsIn, conjunction, Asking, Named, NamesWhole, attributesNamed}
+use Rattle.query.specs.Asking.{asks, filled, askedOf}
 use Rattle.query.specs.Accepting.{Names, item, left, right, ofConstant, NamedIn}
 use Rattle.query.specs.Statements.{SaysItem, SaysComparison, two, constant, AskedWhole}
+use Rattle.query.proofs.Asking.{conjunction-of}
 
 -- ---- items
 
@@ -95,7 +97,7 @@ same-name {v} {a} {w} {b} P e p =
     let t : a ≡ b = ap (λ (i : QueryItem). i .attribute) e in
     subst (λ (x : ℕ). P x a) (sym q) (subst (P w) (sym t) p)
 
-in-name : {v a : ℕ} (r : Record) → List·Memᴰ (pair v a) (nameOf r) → Names v a r
+pub in-name : {v a : ℕ} (r : Record) → List·Memᴰ (pair v a) (nameOf r) → Names v a r
 unfolding nameOf
 in-name (OfBook r) m = absurd (List·Memᴰ·not-nil m)
 in-name (OfQuery (Item w b)) m = same-name (λ x y. Names x y (OfQuery (Item w b))) (List·Memᴰ·eq-of-singleton m) item
@@ -108,14 +110,14 @@ in-name (OfQuery (CompareConstant w b operator cell)) m =
 in-name (OfQuery End) m = absurd (List·Memᴰ·not-nil m)
 
 -- so do records
-names-in : {v a : ℕ} {r : Record} {rs : List Record} → List·Memᴰ r rs → Names v a r
+pub names-in : {v a : ℕ} {r : Record} {rs : List Record} → List·Memᴰ r rs → Names v a r
     → List·Memᴰ (pair v a) (namesOf rs)
 unfolding namesOf
 names-in {v} {a} {r} (List·Memᴰ·head {xs = rs} e) n =
     Memᴰ·append-left (namesOf rs) (name-in (subst (Names v a) e n))
 names-in (List·Memᴰ·tail {x = x} m) n = Memᴰ·append-right (nameOf x) (names-in m n)
 
-in-names : {v a : ℕ} (rs : List Record) → List·Memᴰ (pair v a) (namesOf rs) → NamedIn rs v a
+pub in-names : {v a : ℕ} (rs : List Record) → List·Memᴰ (pair v a) (namesOf rs) → NamedIn rs v a
 unfolding namesOf
 in-names [] m = absurd (List·Memᴰ·not-nil m)
 in-names {v} {a} (r ∷ rs) m = here (λ p. in-names rs p) (List·Memᴰ·append-cases (nameOf r) m)
@@ -126,6 +128,46 @@ in-names {v} {a} (r ∷ rs) m = here (λ p. in-names rs p) (List·Memᴰ·append
     here later (inr p) =
         let n = later p in
         record { by = n .by; there = List·Memᴰ·tail (n .there); names = n .names }
+
+-- items and comparisons are named: what was gathered is what one of the records says
+record Said {A : Type 0} (Says : Record → A → Type 0) (rs : List Record) (x : A) : Type 0 where
+  by : Record
+  there : List·Memᴰ by rs
+  says : Says by x
+
+gathered-said : {A : Type 0} {Says : Record → A → Type 0} {rs : List Record} {xs : List A} {x : A} → Gathered Says rs xs
+    → List·Memᴰ x xs → Said Says rs x
+gathered-said ended m = absurd (List·Memᴰ·not-nil m)
+gathered-said {Says = Says} (taken {r = r} s g) (List·Memᴰ·head e) =
+    record { by = r; there = List·Memᴰ·head refl; says = subst (Says r) (sym e) s }
+gathered-said (taken s g) (List·Memᴰ·tail m) =
+    let p = gathered-said g m in
+    record { by = p .by; there = List·Memᴰ·tail (p .there); says = p .says }
+gathered-said (passedOver n g) m =
+    let p = gathered-said g m in
+    record { by = p .by; there = List·Memᴰ·tail (p .there); says = p .says }
+
+says-left : {r : Record} {c : Comparison} → SaysComparison r c → Names (c .variable) (c .attribute) r
+says-left two = left
+says-left constant = ofConstant
+
+says-right : {r : Record} {c : Comparison} → SaysComparison r c → c .constant ≡ false
+    → Names (c .variable2) (c .attribute2) r
+says-right two e = right
+says-right constant e = absurd (yes-no refl e)
+
+pub names-whole : (rs : List Record) → NamesWhole (asks rs)
+names-whole rs = record {
+  items = λ i m.
+      let p = gathered-said (items-gathered rs) m in
+      names-in (p .there) (subst (Names (i .variable) (i .attribute)) (sym (p .says)) item);
+  lefts = λ c m. let p = compared m in names-in (p .there) (says-left (p .says));
+  rights = λ c m e. let p = compared m in names-in (p .there) (says-right (p .says) e);
+}
+  where
+    compared : {c : Comparison} → List·Memᴰ c (comparisonsIn (conjunction (comparisonsOf rs))) → Said SaysComparison rs c
+    compared {c} m =
+        gathered-said (comparisons-gathered rs) (subst (λ (l : List Comparison). List·Memᴰ c l) (conjunction-of (comparisonsOf rs)) m)
 
 -- ---- the attributes of a variable
 
@@ -175,14 +217,13 @@ module _ (v : ℕ) {a : ℕ} where
           (λ m. inr (List·Memᴰ·tail m)) (later (insert X (n .attribute)) p)
       by false y later p = ⊎-elim (λ q. inl q) (λ m. inr (List·Memᴰ·tail m)) (later X p)
 
-pub named-in : (rs : List Record) (v : ℕ) {a : ℕ} → a ∈ attributesNamed rs v → NamedIn rs v a
+pub named-in : (q : Asking) (v : ℕ) {a : ℕ} → a ∈ attributesNamed q v → Named q v a
 unfolding attributesNamed
-named-in rs v {a} i =
-    ⊎-elim (λ z. absurd (in-out z (zero-out a))) (λ m. in-names rs m) (naming-only v 0 (namesOf rs) i)
+named-in q v {a} i = ⊎-elim (λ z. absurd (in-out z (zero-out a))) (λ m. m) (naming-only v 0 (q .names) i)
 
-pub in-named : (rs : List Record) (v : ℕ) {a : ℕ} → NamedIn rs v a → a ∈ attributesNamed rs v
+pub in-named : (q : Asking) (v : ℕ) {a : ℕ} → Named q v a → a ∈ attributesNamed q v
 unfolding attributesNamed
-in-named rs v n = naming-takes v 0 (names-in (n .there) (n .names))
+in-named q v n = naming-takes v 0 n
 
 -- ---- lists in arrays
 
@@ -192,18 +233,18 @@ take-filled d n [] h = refl
 take-filled d zero (x ∷ l) h = absurd (omega arith)
 take-filled d (suc n) (x ∷ l) h = ap (λ m. x ∷ m) (take-filled d n l (omega arith))
 
-pub asked-attributes : (rs : List Record) (v : ℕ) → v < 4 → getD (askedOf rs .attributes) v 0 ≡ attributesNamed rs v
+pub asked-attributes : (q : Asking) (v : ℕ) → v < 4 → getD (askedOf q .attributes) v 0 ≡ attributesNamed q v
 unfolding askedOf
-asked-attributes rs zero h = refl
-asked-attributes rs (suc zero) h = refl
-asked-attributes rs (suc (suc zero)) h = refl
-asked-attributes rs (suc (suc (suc zero))) h = refl
-asked-attributes rs (suc (suc (suc (suc v)))) h = absurd (omega arith)
+asked-attributes q zero h = refl
+asked-attributes q (suc zero) h = refl
+asked-attributes q (suc (suc zero)) h = refl
+asked-attributes q (suc (suc (suc zero))) h = refl
+asked-attributes q (suc (suc (suc (suc v)))) h = absurd (omega arith)
 
-pub asked-whole : (rs : List Record) → length (itemsOf rs) ≤ 8 → length (comparisonsOf rs) ≤ 16 → AskedWhole rs
+pub asked-whole : (q : Asking) → length (q .items) ≤ 8 → length (comparisonsIn (q .condition)) ≤ 16 → AskedWhole q
 unfolding askedOf
-asked-whole rs i c = record {
-  items = take-filled (pair 0 0) 8 (itemsOf rs) i;
-  comparisons = take-filled (ofTwo 0 0 0 0 0) 16 (comparisonsOf rs) c;
-  attributes = asked-attributes rs;
+asked-whole q i c = record {
+  items = take-filled (pair 0 0) 8 (q .items) i;
+  comparisons = take-filled (ofTwo 0 0 0 0 0) 16 (comparisonsIn (q .condition)) c;
+  attributes = asked-attributes q;
 }

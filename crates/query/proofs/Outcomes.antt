@@ -22,14 +22,14 @@ use Rattle.records.specs.declared.QueryRecord.the-variants.{End}
 use Rattle.records.specs.declared.Reading.the-variants.{Found}
 use Rattle.records.proofs.Walking.{walk-stops, stops-walk}
 use Rattle.scheme.specs.declared.Scheme.{Scheme}
-use Rattle.query.specs.Asking.{itemsOf, comparisonsOf, askedOf}
+use Rattle.query.specs.Asking.{Asking, asks, askedOf}
 use Rattle.query.specs.Faults.{checks, faultOf}
 use Rattle.query.specs.Reading.{isEnd, queryRules, walkQuery, wholeNumber, QueryOutcome, refusedWith, atEnd, read}
 use Rattle.query.specs.Accepting.{OfWhole, Accepted, Faulty, StopsWith, faulty, unended, refused, answered}
 use Rattle.query.specs.Statements.{FaultyRecord, Unended, Ended}
 use Rattle.query.proofs.Conditions.{FaultNumber, two, three, four, five, seven, eleven, fault-number}
 use Rattle.query.proofs.Conditions.{fault-splits, query-sound}
-use Rattle.query.proofs.Asking.{last-is-end}
+use Rattle.query.proofs.Asking.{asks-end, last-is-end}
 use Rattle.query.proofs.Fits.{state-is}
 use Rattle.query.proofs.Whole.{whole-at-end, at-end-whole, whole-numbers}
 
@@ -46,7 +46,7 @@ pub faulty-number-is : (s : Scheme) (rs : List Record) {b : List ℕ} {at n : �
 faulty-number-is s rs (Walking.notAllowed h e) = two
 faulty-number-is s rs (Walking.cutShort y c) = three
 faulty-number-is s rs (Walking.wrong {r = r} w y e d) =
-    subst FaultNumber e (fault-number s (length (itemsOf rs)) (length (comparisonsOf rs)) r (λ z. d (sym e ∙ z)))
+    subst FaultNumber e (fault-number s (askedOf (asks rs)) r (λ z. d (sym e ∙ z)))
 
 no-zero : {n : ℕ} → FaultNumber n → n ≡ 0 → ⊥
 no-zero f z = ⊎-elim (λ p. absurd (omega arith)) (λ p. absurd (omega arith)) (fault-splits f)
@@ -57,40 +57,40 @@ no-zero f z = ⊎-elim (λ p. absurd (omega arith)) (λ p. absurd (omega arith))
 pub after : Scheme → List ℕ → Stop (List Record) → QueryOutcome
 after s Ms w =
     elim (eqb (w .number) 0) [
-      | true ↦ atEnd (wholeNumber s Ms (askedOf (w .state))) (w .state) (w .at)
-      | false ↦ refusedWith (w .number) (w .state)
+      | true ↦ atEnd (wholeNumber s Ms (askedOf (asks (w .state)))) (asks (w .state)) (w .at)
+      | false ↦ refusedWith (w .number) (asks (w .state))
     ]
 
 module _ (s : Scheme) (Ms : List ℕ) where
-  pub after-fault : (w : Stop (List Record)) → (w .number ≡ 0 → ⊥) → after s Ms w ≡ refusedWith (w .number) (w .state)
+  pub after-fault : (w : Stop (List Record)) → (w .number ≡ 0 → ⊥) → after s Ms w ≡ refusedWith (w .number) (asks (w .state))
   unfolding after
   after-fault w d = rw (after, ne-eqb (w .number) 0 d)
 
   pub after-end : (w : Stop (List Record)) → w .number ≡ 0
-      → after s Ms w ≡ atEnd (wholeNumber s Ms (askedOf (w .state))) (w .state) (w .at)
+      → after s Ms w ≡ atEnd (wholeNumber s Ms (askedOf (asks (w .state)))) (asks (w .state)) (w .at)
   unfolding after
   after-end w z = rw (after, eq-eqb (w .number) 0 z)
 
-pub end-fault : (n : ℕ) (rs : List Record) (at : ℕ) → (n ≡ 0 → ⊥) → atEnd n rs at ≡ refusedWith n rs
+pub end-fault : (n : ℕ) (q : Asking) (at : ℕ) → (n ≡ 0 → ⊥) → atEnd n q at ≡ refusedWith n q
 unfolding atEnd
-end-fault n rs at d = rw (atEnd, ne-eqb n 0 d)
+end-fault n q at d = rw (atEnd, ne-eqb n 0 d)
 
-pub end-good : (n : ℕ) (rs : List Record) (at : ℕ) → n ≡ 0 → atEnd n rs at
-    ≡ record { number = 0; records = rs; read = at }
+pub end-good : (n : ℕ) (q : Asking) (at : ℕ) → n ≡ 0 → atEnd n q at
+    ≡ record { number = 0; asking = q; read = at }
 unfolding atEnd
-end-good n rs at z = rw (atEnd, eq-eqb n 0 z)
+end-good n q at z = rw (atEnd, eq-eqb n 0 z)
 
 -- where a walk stops, reading stops
 module _ (s : Scheme) (Ms b : List ℕ) where
   at-end-stops : {rs : List Record} {at next : ℕ} → Accepted s b rs at → readAt b at ≡ Found (OfQuery End) next
-      → StopsWith s Ms b (atEnd (wholeNumber s Ms (askedOf (rs ++ OfQuery End ∷ []))) (rs ++ OfQuery End ∷ []) next)
+      → StopsWith s Ms b (atEnd (wholeNumber s Ms (askedOf (asks rs))) (asks rs) next)
   at-end-stops {rs} {at} {next} a e =
-      let n = wholeNumber s Ms (askedOf (rs ++ OfQuery End ∷ [])) in
+      let n = wholeNumber s Ms (askedOf (asks rs)) in
       let w = whole-at-end s Ms a in
       ⊎-elim
-      (λ z. subst (StopsWith s Ms b) (sym (end-good n (rs ++ OfQuery End ∷ []) next z))
-      (answered a e (subst (OfWhole s Ms rs) z w)))
-      (λ d. subst (StopsWith s Ms b) (sym (end-fault n (rs ++ OfQuery End ∷ []) next d)) (refused a e w d))
+      (λ z. subst (StopsWith s Ms b) (sym (end-good n (asks rs) next z))
+      (answered a e (subst (OfWhole s Ms (asks rs)) z w)))
+      (λ d. subst (StopsWith s Ms b) (sym (end-fault n (asks rs) next d)) (refused a e w d))
       (eq-or-ne n 0)
 
   walk-reading : (w : Stop (List Record)) → StopsAt (queryRules s) b [] w → StopsWith s Ms b (after s Ms w)
@@ -103,12 +103,13 @@ module _ (s : Scheme) (Ms b : List ℕ) where
       let q = last-is-end r l in
       subst (StopsWith s Ms b)
       (sym (after-end s Ms w refl
-      ∙ ap (λ (x : Record). atEnd (wholeNumber s Ms (askedOf (st ++ x ∷ []))) (st ++ x ∷ []) next) q))
+      ∙ ap (λ (x : Record). atEnd (wholeNumber s Ms (askedOf (asks (st ++ x ∷ [])))) (asks (st ++ x ∷ [])) next) q
+      ∙ ap (λ (x : Asking). atEnd (wholeNumber s Ms (askedOf x)) x next) (asks-end st)))
       (at-end-stops (walk-accepted s a) (subst (λ (x : Record). readAt b at ≡ Found x next) q e))
 
   -- ---- the query
 
-  pub read-over : 65536 < length b → read s Ms b ≡ refusedWith 1 []
+  pub read-over : 65536 < length b → read s Ms b ≡ refusedWith 1 (asks [])
   unfolding read
   read-over h = rw (read, lt-ltb 65536 (length b) h)
 
@@ -129,11 +130,12 @@ module _ (s : Scheme) (Ms b : List ℕ) where
 
   walk-at-end : {rs : List Record} {at next : ℕ} → Accepted s b rs at → readAt b at ≡ Found (OfQuery End) next
       → after s Ms (walkQuery s b)
-      ≡ atEnd (wholeNumber s Ms (askedOf (rs ++ OfQuery End ∷ []))) (rs ++ OfQuery End ∷ []) next
+      ≡ atEnd (wholeNumber s Ms (askedOf (asks rs))) (asks rs) next
   unfolding faultOf checks firstOf isEnd kindOf
   walk-at-end {rs} {at} {next} a e =
       walk-is (Walking.atLast (a .walked) e refl refl)
       ∙ after-end s Ms (record { number = 0; state = rs ++ OfQuery End ∷ []; at = next }) refl
+      ∙ ap (λ (x : Asking). atEnd (wholeNumber s Ms (askedOf x)) x next) (asks-end rs)
 
   pub stops-read : {o : QueryOutcome} → length b ≤ 65536 → StopsWith s Ms b o → read s Ms b ≡ o
   stops-read h w = read-within h ∙ by w
@@ -147,12 +149,11 @@ module _ (s : Scheme) (Ms b : List ℕ) where
           ∙ after-fault s Ms (record { number = 3; state = rs; at = at }) (λ z. absurd (omega arith))
       by (refused {rs} {at} {next} {n} a e w d) =
           walk-at-end a e
-          ∙ ap (λ (k : ℕ). atEnd k (rs ++ OfQuery End ∷ []) next) (at-end-whole s Ms a w)
-          ∙ end-fault n (rs ++ OfQuery End ∷ []) next d
+          ∙ ap (λ (k : ℕ). atEnd k (asks rs) next) (at-end-whole s Ms a w)
+          ∙ end-fault n (asks rs) next d
       by (answered {rs} {at} {next} a e w) =
           walk-at-end a e
-          ∙ end-good (wholeNumber s Ms (askedOf (rs ++ OfQuery End ∷ []))) (rs ++ OfQuery End ∷ []) next
-          (at-end-whole s Ms a w)
+          ∙ end-good (wholeNumber s Ms (askedOf (asks rs))) (asks rs) next (at-end-whole s Ms a w)
 
 -- ---- where its number comes from
 
@@ -185,7 +186,7 @@ module _ (s : Scheme) (Ms b : List ℕ) where
     ended-number {n} w =
         ⊎-elim
         (λ z.
-        let v = subst (OfWhole s Ms (w .passed)) z (w .whole) in
+        let v = subst (OfWhole s Ms (asks (w .passed))) z (w .whole) in
         number-stops (answered (w .accepted) (w .atKindTen) v) ∙ sym z)
         (λ d. number-stops (refused (w .accepted) (w .atKindTen) (w .whole) d)) (eq-or-ne n 0)
 

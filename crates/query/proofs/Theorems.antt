@@ -1,23 +1,26 @@
 -- The theorems of `Statements`, in its order.
 -- Assumes nothing.
-use mathlib.Core.Path.{sym, _∙_, subst}
+use mathlib.Core.Path.{sym, ap, _∙_, subst}
 use mathlib.Core.Logic.{⊎-elim}
-use mathlib.Core.List.{List, [], _∷_, _++_}
+use mathlib.Core.List.{List}
 use Prim.Native.Nat.{ℕ}
 use native.Mathlib.Omega.{arith}
 use lib.ListN.{length}
 use Rattle.sets.proofs.Numbers.{lt-or-le}
 use Rattle.records.specs.Checks.{First}
 use Rattle.records.specs.declared.Record.{Record}
-use Rattle.records.specs.declared.Record.the-variants.{OfQuery}
-use Rattle.records.specs.declared.QueryRecord.the-variants.{End}
 use Rattle.scheme.specs.declared.Scheme.{Scheme}
+use Rattle.records.specs.Gathered.{Gathered}
+use Rattle.query.specs.declared.Asked.{Asked}
+use Rattle.query.specs.Asking.{Asking, comparisonsOf, asks}
 use Rattle.query.specs.Conditions.{conditions}
 use Rattle.query.specs.Accepting.{StopsWith}
-use Rattle.query.specs.Statements.{FaultMeans, RecordsAsk, ContainingList, ReadExactly, AcceptedFits, NumberMeans}
+use Rattle.query.specs.Statements.{FaultMeans, SaysComparison, RecordsAsk, AttributesAre, ContainingList}
+use Rattle.query.specs.Statements.{ReadExactly, AcceptedFits, NumberMeans}
 use Rattle.query.proofs.Conditions.{three, fault-first, first-fault}
-use Rattle.query.proofs.Names.{items-gathered, comparisons-gathered, named-in, in-named, asked-whole}
-use Rattle.query.proofs.Asking.{items-at-end, comparisons-at-end}
+use Rattle.query.proofs.Names.{items-gathered, comparisons-gathered, names-in, in-names, names-whole, named-in}
+use Rattle.query.proofs.Names.{in-named, asked-whole}
+use Rattle.query.proofs.Asking.{conjunction-of}
 use Rattle.query.proofs.Fits.{accepted-records-fit}
 use Rattle.query.proofs.Whole.{containing-only, containing-has, containing-ordered}
 use Rattle.query.proofs.Outcomes.{read-over, read-stops, stops-read, faulty-number, unended-number, ended-number}
@@ -26,12 +29,9 @@ use Rattle.query.proofs.Outcomes.{number-three, number-of-query, record
 
 -- ---- the fault of a record
 
-pub fault-means : (s : Scheme) (items comparisons : ℕ) (r : Record) → FaultMeans s items comparisons r
-fault-means s items comparisons r = record {
-  exactly = λ n. (
-    λ e. subst (First (conditions s items comparisons r)) e (fault-first s items comparisons r),
-    λ f. first-fault s items comparisons r f,
-  );
+pub fault-means : (s : Scheme) (q : Asked) (r : Record) → FaultMeans s q r
+fault-means s q r = record {
+  exactly = λ n. (λ e. subst (First (conditions s q r)) e (fault-first s q r), λ f. first-fault s q r f);
 }
 
 -- ---- what records ask
@@ -39,9 +39,17 @@ fault-means s items comparisons r = record {
 pub records-ask : (rs : List Record) → RecordsAsk rs
 records-ask rs = record {
   items = items-gathered rs;
-  comparisons = comparisons-gathered rs;
-  attributes = λ v a. (λ i. named-in rs v i, λ n. in-named rs v n);
+  comparisons = subst (Gathered SaysComparison rs) (sym (conjunction-of (comparisonsOf rs))) (comparisons-gathered rs);
+  names = λ v a. (λ m. in-names rs m, λ n. names-in (n .there) (n .names));
+  whole = names-whole rs;
+  attributes = λ v a. (
+    λ i. in-names rs (named-in (asks rs) v i),
+    λ n. in-named (asks rs) v (names-in (n .there) (n .names)),
+  );
 }
+
+pub attributes-are : (q : Asking) → AttributesAre q
+attributes-are q = record { attributes = λ v a. (λ i. named-in q v i, λ n. in-named q v n) }
 
 -- ---- maximal objects that contain a set
 
@@ -61,10 +69,9 @@ read-exactly s Ms b = record {
 
 pub accepted-fits : (s : Scheme) (b : List ℕ) → AcceptedFits s b
 accepted-fits s b = record {
-  asks = λ rs at a. let w = accepted-records-fit s a in asked-whole rs (w .items) (w .comparisons);
-  ends = λ rs at a.
+  whole = λ rs at a.
       let w = accepted-records-fit s a in
-      asked-whole (rs ++ OfQuery End ∷ []) (rw items-at-end (w .items)) (rw comparisons-at-end (w .comparisons));
+      asked-whole (asks rs) (w .items) (omega (arith, ap length (conjunction-of (comparisonsOf rs)), w .comparisons));
   named = λ rs at v a k n. let w = accepted-records-fit s k .named n in (w .variable, w .attribute);
 }
 

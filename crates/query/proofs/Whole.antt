@@ -1,4 +1,4 @@
--- The number of a whole query is what the paper's words say of its records.
+-- The number of a whole query is what the paper's words say of what it asks.
 -- In order: maximal objects that contain a set, a variable's X in no maximal object, the X of all variables, the
 -- number.
 -- Assumes nothing.
@@ -17,18 +17,15 @@ use Rattle.sets.specs.Sets.{within, isEmpty}
 use Rattle.sets.proofs.Tests.{yes-no, and-yes, yes-and}
 use Rattle.sets.proofs.Sets.{yes-within, no-within, isEmpty-no, no-isEmpty}
 use Rattle.records.specs.declared.Record.{Record}
-use Rattle.records.specs.declared.Record.the-variants.{OfQuery}
-use Rattle.records.specs.declared.QueryRecord.the-variants.{End}
 use Rattle.scheme.specs.declared.Scheme.{Scheme}
 use Rattle.scheme.specs.Growing.{attributesOf}
 use Rattle.scheme.specs.Statements.{LeavesOut, ended, kept, out}
 use Rattle.scheme.proofs.Lists.{Asks, some-yes, yes-some}
-use Rattle.query.specs.Asking.{itemsOf, attributesNamed, askedOf}
+use Rattle.query.specs.Asking.{Asking, Named, attributesNamed, asks, askedOf}
 use Rattle.query.specs.Reading.{containing, unconnected, someUnconnected, wholeNumber}
 use Rattle.query.specs.Accepting.{Contains, Unconnected, OfWhole, noItem, notConnected, good, Accepted}
 use Rattle.query.proofs.Names.{named-in, in-named}
-use Rattle.query.proofs.Asking.{asked-end}
-use Rattle.query.proofs.Fits.{Fits, accepted-records-fit}
+use Rattle.query.proofs.Fits.{accepted-records-fit}
 
 -- ---- maximal objects that contain a set
 
@@ -86,28 +83,28 @@ unfolding isNil
 none-nil [] n = refl
 none-nil (y ∷ l) n = absurd (n y (List·Memᴰ·head refl))
 
-module _ (sets Ms : List ℕ) (rs : List Record) (v : ℕ) where
-  yes-unconnected : unconnected sets Ms (attributesNamed rs v) ≡ true → Unconnected sets Ms rs v
+module _ (sets Ms : List ℕ) (q : Asking) (v : ℕ) where
+  yes-unconnected : unconnected sets Ms (attributesNamed q v) ≡ true → Unconnected sets Ms q v
   unfolding unconnected
   yes-unconnected e =
-      let X = attributesNamed rs v in
+      let X = attributesNamed q v in
       let p = yes-and (not (isEmpty X)) (isNil (containing sets Ms X)) e in
       let i = no-isEmpty X (not-true (isEmpty X) (p .0)) in
       record {
-        named = (i .0, named-in rs v (i .1));
+        named = (i .0, named-in q v (i .1));
         nowhere = λ M m c.
             nil-none (containing sets Ms X) (p .1)
-            (containing-has sets X m (record { each = λ {k} j. c k (named-in rs v j) }));
+            (containing-has sets X m (record { each = λ {k} j. c k (named-in q v j) }));
       }
 
-  unconnected-yes : Unconnected sets Ms rs v → unconnected sets Ms (attributesNamed rs v) ≡ true
+  unconnected-yes : Unconnected sets Ms q v → unconnected sets Ms (attributesNamed q v) ≡ true
   unfolding unconnected
   unconnected-yes u =
-      let X = attributesNamed rs v in
-      and-yes (ap not (isEmpty-no (in-named rs v (u .named .1))))
+      let X = attributesNamed q v in
+      and-yes (ap not (isEmpty-no (in-named q v (u .named .1))))
       (none-nil (containing sets Ms X) (λ M m.
       let c = containing-only sets X Ms m in
-      u .nowhere M (c .0) (λ a n. c .1 .each (in-named rs v n))))
+      u .nowhere M (c .0) (λ a n. c .1 .each (in-named q v n))))
 
 -- ---- the X of all variables: "variables 0 to 3"
 
@@ -115,39 +112,43 @@ some-asks : (sets Ms : List ℕ) → Asks (unconnected sets Ms) (someUnconnected
 unfolding someUnconnected
 some-asks sets Ms = record { none = refl; more = λ X Xs. refl }
 
-attributes-there : (rs : List Record) (v : ℕ) → v < 4 → List·Memᴰ (attributesNamed rs v) (askedOf rs .attributes)
+attributes-there : (q : Asking) (v : ℕ) → v < 4 → List·Memᴰ (attributesNamed q v) (askedOf q .attributes)
 unfolding askedOf
-attributes-there rs zero h = List·Memᴰ·head refl
-attributes-there rs (suc zero) h = List·Memᴰ·tail (List·Memᴰ·head refl)
-attributes-there rs (suc (suc zero)) h = List·Memᴰ·tail (List·Memᴰ·tail (List·Memᴰ·head refl))
-attributes-there rs (suc (suc (suc zero))) h =
+attributes-there q zero h = List·Memᴰ·head refl
+attributes-there q (suc zero) h = List·Memᴰ·tail (List·Memᴰ·head refl)
+attributes-there q (suc (suc zero)) h = List·Memᴰ·tail (List·Memᴰ·tail (List·Memᴰ·head refl))
+attributes-there q (suc (suc (suc zero))) h =
     List·Memᴰ·tail (List·Memᴰ·tail (List·Memᴰ·tail (List·Memᴰ·head refl)))
-attributes-there rs (suc (suc (suc (suc v)))) h = absurd (omega arith)
+attributes-there q (suc (suc (suc (suc v)))) h = absurd (omega arith)
 
-there-attributes : (rs : List Record) {X : ℕ} → List·Memᴰ X (askedOf rs .attributes)
-    → (v : ℕ) × (X ≡ attributesNamed rs v)
+there-attributes : (q : Asking) {X : ℕ} → List·Memᴰ X (askedOf q .attributes)
+    → (v : ℕ) × (X ≡ attributesNamed q v)
 unfolding askedOf
-there-attributes rs (List·Memᴰ·head e) = (0, e)
-there-attributes rs (List·Memᴰ·tail (List·Memᴰ·head e)) = (1, e)
-there-attributes rs (List·Memᴰ·tail (List·Memᴰ·tail (List·Memᴰ·head e))) = (2, e)
-there-attributes rs (List·Memᴰ·tail (List·Memᴰ·tail (List·Memᴰ·tail (List·Memᴰ·head e)))) = (3, e)
-there-attributes rs (List·Memᴰ·tail (List·Memᴰ·tail (List·Memᴰ·tail (List·Memᴰ·tail m)))) =
+there-attributes q (List·Memᴰ·head e) = (0, e)
+there-attributes q (List·Memᴰ·tail (List·Memᴰ·head e)) = (1, e)
+there-attributes q (List·Memᴰ·tail (List·Memᴰ·tail (List·Memᴰ·head e))) = (2, e)
+there-attributes q (List·Memᴰ·tail (List·Memᴰ·tail (List·Memᴰ·tail (List·Memᴰ·head e)))) = (3, e)
+there-attributes q (List·Memᴰ·tail (List·Memᴰ·tail (List·Memᴰ·tail (List·Memᴰ·tail m)))) =
     absurd (List·Memᴰ·not-nil m)
 
-module _ (sets Ms : List ℕ) (rs : List Record) where
-  yes-some-unconnected : someUnconnected sets Ms (askedOf rs .attributes) ≡ true
-      → (v : ℕ) × Unconnected sets Ms rs v
-  yes-some-unconnected e =
-      let p = yes-some (some-asks sets Ms) (askedOf rs .attributes) e in
-      let q = there-attributes rs (p .there) in
-      (q .0, yes-unconnected sets Ms rs (q .0) (ap (unconnected sets Ms) (sym (q .1)) ∙ p .passing))
+-- "variables 0 to 3"
+abbrev FourVariables : Asking → Type 0
+FourVariables q = (v a : ℕ) → Named q v a → v < 4
 
-  no-some-unconnected : Fits rs → someUnconnected sets Ms (askedOf rs .attributes) ≡ false → (v : ℕ)
-      → Unconnected sets Ms rs v → ⊥
+module _ (sets Ms : List ℕ) (q : Asking) where
+  yes-some-unconnected : someUnconnected sets Ms (askedOf q .attributes) ≡ true
+      → (v : ℕ) × Unconnected sets Ms q v
+  yes-some-unconnected e =
+      let p = yes-some (some-asks sets Ms) (askedOf q .attributes) e in
+      let x = there-attributes q (p .there) in
+      (x .0, yes-unconnected sets Ms q (x .0) (ap (unconnected sets Ms) (sym (x .1)) ∙ p .passing))
+
+  no-some-unconnected : FourVariables q → someUnconnected sets Ms (askedOf q .attributes) ≡ false → (v : ℕ)
+      → Unconnected sets Ms q v → ⊥
   no-some-unconnected w e v u =
       yes-no
-      (some-yes (some-asks sets Ms) (attributes-there rs v (w .named (u .named .1) .variable))
-      (unconnected-yes sets Ms rs v u)) e
+      (some-yes (some-asks sets Ms) (attributes-there q v (w v (u .named .0) (u .named .1)))
+      (unconnected-yes sets Ms q v u)) e
 
 -- ---- the number
 
@@ -155,22 +156,22 @@ length-zero : {A : Type 0} (l : List A) → length l ≡ 0 → l ≡ []
 length-zero [] e = refl
 length-zero (x ∷ l) e = absurd (omega arith)
 
-whole-means : (s : Scheme) (Ms : List ℕ) (rs : List Record) → Fits rs → OfWhole s Ms rs (wholeNumber s Ms (askedOf rs))
+whole-means : (s : Scheme) (Ms : List ℕ) (q : Asking) → FourVariables q → OfWhole s Ms q (wholeNumber s Ms (askedOf q))
 unfolding wholeNumber askedOf
-whole-means s Ms rs w =
-    choose (eqb (length (itemsOf rs)) 0) refl (someUnconnected (s .sets) Ms (askedOf rs .attributes)) refl
+whole-means s Ms q w =
+    choose (eqb (length (q .items)) 0) refl (someUnconnected (s .sets) Ms (askedOf q .attributes)) refl
   where
-    choose : (t : Bool) → eqb (length (itemsOf rs)) 0 ≡ t → (u : Bool)
-        → someUnconnected (s .sets) Ms (askedOf rs .attributes) ≡ u
-        → OfWhole s Ms rs (elim t [ true ↦ 10 | false ↦ elim u [ true ↦ 12 | false ↦ 0 ] ])
-    choose true y u q = noItem (length-zero (itemsOf rs) (eqb-true (length (itemsOf rs)) 0 y))
-    choose false n true q =
-        let p = yes-some-unconnected (s .sets) Ms rs q in
-        notConnected (λ e. eqb-false (length (itemsOf rs)) 0 n (ap length e)) (p .0) (p .1)
-    choose false n false q =
-        good (λ e. eqb-false (length (itemsOf rs)) 0 n (ap length e)) (no-some-unconnected (s .sets) Ms rs w q)
+    choose : (t : Bool) → eqb (length (q .items)) 0 ≡ t → (u : Bool)
+        → someUnconnected (s .sets) Ms (askedOf q .attributes) ≡ u
+        → OfWhole s Ms q (elim t [ true ↦ 10 | false ↦ elim u [ true ↦ 12 | false ↦ 0 ] ])
+    choose true y u z = noItem (length-zero (q .items) (eqb-true (length (q .items)) 0 y))
+    choose false n true z =
+        let p = yes-some-unconnected (s .sets) Ms q z in
+        notConnected (λ e. eqb-false (length (q .items)) 0 n (ap length e)) (p .0) (p .1)
+    choose false n false z =
+        good (λ e. eqb-false (length (q .items)) 0 n (ap length e)) (no-some-unconnected (s .sets) Ms q w z)
 
-whole-unique : {s : Scheme} {Ms : List ℕ} {rs : List Record} {n m : ℕ} → OfWhole s Ms rs n → OfWhole s Ms rs m → n ≡ m
+whole-unique : {s : Scheme} {Ms : List ℕ} {q : Asking} {n m : ℕ} → OfWhole s Ms q n → OfWhole s Ms q m → n ≡ m
 whole-unique (noItem e) (noItem f) = refl
 whole-unique (noItem e) (notConnected d v u) = absurd (d e)
 whole-unique (noItem e) (good d c) = absurd (d e)
@@ -183,17 +184,14 @@ whole-unique (good d c) (good d2 c2) = refl
 
 -- at the end of a query, behind accepted records
 module _ (s : Scheme) (Ms : List ℕ) {b : List ℕ} {rs : List Record} {at : ℕ} (a : Accepted s b rs at) where
-  same-at-end : wholeNumber s Ms (askedOf (rs ++ OfQuery End ∷ [])) ≡ wholeNumber s Ms (askedOf rs)
-  same-at-end = ap (wholeNumber s Ms) (sym (asked-end rs))
+  pub whole-at-end : OfWhole s Ms (asks rs) (wholeNumber s Ms (askedOf (asks rs)))
+  whole-at-end = whole-means s Ms (asks rs) (λ v a′ n. accepted-records-fit s a .named n .variable)
 
-  pub whole-at-end : OfWhole s Ms rs (wholeNumber s Ms (askedOf (rs ++ OfQuery End ∷ [])))
-  whole-at-end = subst (OfWhole s Ms rs) (sym same-at-end) (whole-means s Ms rs (accepted-records-fit s a))
-
-  pub at-end-whole : {n : ℕ} → OfWhole s Ms rs n → wholeNumber s Ms (askedOf (rs ++ OfQuery End ∷ [])) ≡ n
+  pub at-end-whole : {n : ℕ} → OfWhole s Ms (asks rs) n → wholeNumber s Ms (askedOf (asks rs)) ≡ n
   at-end-whole w = whole-unique whole-at-end w
 
 -- the numbers
-pub whole-numbers : {s : Scheme} {Ms : List ℕ} {rs : List Record} {n : ℕ} → OfWhole s Ms rs n
+pub whole-numbers : {s : Scheme} {Ms : List ℕ} {q : Asking} {n : ℕ} → OfWhole s Ms q n
     → (n ≡ 0) ⊎ ((n ≡ 10) ⊎ (n ≡ 12))
 whole-numbers (noItem e) = inr (inl refl)
 whole-numbers (notConnected d v u) = inr (inr refl)

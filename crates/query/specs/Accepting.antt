@@ -16,7 +16,7 @@ use Rattle.records.specs.declared.QueryRecord.the-variants.{Item, CompareTwo, C
 use Rattle.records.specs.declared.Reading.the-variants.{Found}
 use Rattle.scheme.specs.declared.Scheme.{Scheme}
 use Rattle.scheme.specs.Growing.{attributesOf}
-use Rattle.query.specs.Asking.{itemsOf, comparisonsOf}
+use Rattle.query.specs.Asking.{Asking, Named, asks, askedOf}
 use Rattle.query.specs.Faults.{faultOf}
 use Rattle.query.specs.Reading.{queryRules, QueryOutcome, refusedWith}
 
@@ -42,18 +42,18 @@ abbrev pub Contains : List ℕ → ℕ → ℕ → Type 0
 Contains sets X M = X ⊆ attributesOf sets M
 
 -- "Some variable's X in no maximal object": the variable is named, and no M contains every attribute named with it
-pub record Unconnected (sets Ms : List ℕ) (rs : List Record) (v : ℕ) : Type 0 where
-  pub named : (a : ℕ) × NamedIn rs v a
-  pub nowhere : (M : ℕ) → List·Memᴰ M Ms → ((a : ℕ) → NamedIn rs v a → a ∈ attributesOf sets M) → ⊥
+pub record Unconnected (sets Ms : List ℕ) (q : Asking) (v : ℕ) : Type 0 where
+  pub named : (a : ℕ) × Named q v a
+  pub nowhere : (M : ℕ) → List·Memᴰ M Ms → ((a : ℕ) → Named q v a → a ∈ attributesOf sets M) → ⊥
 
--- ---- the whole query: the number n that its accepted records get, 0 where nothing is wrong
+-- ---- the whole query: the number n that it gets by what it asks, 0 where nothing is wrong
 
-pub data OfWhole (s : Scheme) (Ms : List ℕ) (rs : List Record) : ℕ → Type 0 where
+pub data OfWhole (s : Scheme) (Ms : List ℕ) (q : Asking) : ℕ → Type 0 where
   -- "No item: 10."
-  noItem : itemsOf rs ≡ [] → OfWhole s Ms rs 10
+  noItem : q .items ≡ [] → OfWhole s Ms q 10
   -- "Some variable's X in no maximal object: 12."
-  notConnected : (itemsOf rs ≡ [] → ⊥) → (v : ℕ) → Unconnected (s .sets) Ms rs v → OfWhole s Ms rs 12
-  good : (itemsOf rs ≡ [] → ⊥) → ((v : ℕ) → Unconnected (s .sets) Ms rs v → ⊥) → OfWhole s Ms rs 0
+  notConnected : (q .items ≡ [] → ⊥) → (v : ℕ) → Unconnected (s .sets) Ms q v → OfWhole s Ms q 12
+  good : (q .items ≡ [] → ⊥) → ((v : ℕ) → Unconnected (s .sets) Ms q v → ⊥) → OfWhole s Ms q 0
 
 -- ---- where reading stops
 
@@ -64,17 +64,17 @@ pub record Accepted (s : Scheme) (b : List ℕ) (rs : List Record) (at : ℕ) : 
 
 -- what stands at a position has the fault n behind the records rs
 abbrev pub Faulty : Scheme → List ℕ → List Record → ℕ → ℕ → Type 0
-Faulty s b rs at n = Walking.Faulty ofQuery (faultOf s (length (itemsOf rs)) (length (comparisonsOf rs))) b at n
+Faulty s b rs at n = Walking.Faulty ofQuery (faultOf s (askedOf (asks rs))) b at n
 
 pub data StopsWith (s : Scheme) (Ms b : List ℕ) : QueryOutcome → Type 0 where
   -- "the earliest faulty record"
   faulty : {rs : List Record} {at n : ℕ} → Accepted s b rs at → Faulty s b rs at n
-      → StopsWith s Ms b (refusedWith n rs)
+      → StopsWith s Ms b (refusedWith n (asks rs))
   -- "Bytes ending without kind 10: 3."
-  unended : {rs : List Record} {at : ℕ} → Accepted s b rs at → length b ≤ at → StopsWith s Ms b (refusedWith 3 rs)
+  unended : {rs : List Record} {at : ℕ} → Accepted s b rs at → length b ≤ at → StopsWith s Ms b (refusedWith 3 (asks rs))
   -- at kind 10, with something wrong with the whole
   refused : {rs : List Record} {at next n : ℕ} → Accepted s b rs at → readAt b at ≡ Found (OfQuery End) next
-      → OfWhole s Ms rs n → (n ≡ 0 → ⊥) → StopsWith s Ms b (refusedWith n (rs ++ OfQuery End ∷ []))
+      → OfWhole s Ms (asks rs) n → (n ≡ 0 → ⊥) → StopsWith s Ms b (refusedWith n (asks rs))
   -- at kind 10, with nothing wrong: the bytes read end behind it
   answered : {rs : List Record} {at next : ℕ} → Accepted s b rs at → readAt b at ≡ Found (OfQuery End) next
-      → OfWhole s Ms rs 0 → StopsWith s Ms b (record { number = 0; records = rs ++ OfQuery End ∷ []; read = next })
+      → OfWhole s Ms (asks rs) 0 → StopsWith s Ms b (record { number = 0; asking = asks rs; read = next })

@@ -20,7 +20,7 @@ use Rattle.scheme.specs.Growing.{attributesOf}
 use Rattle.query.specs.declared.Asked.{Asked}
 use Rattle.query.specs.declared.Walked.{Walked}
 use Rattle.query.specs.declared.Query.{Query}
-use Rattle.query.specs.Asking.{itemsOf, comparisonsOf, askedOf}
+use Rattle.query.specs.Asking.{Asking, asks, askedOf}
 use Rattle.query.specs.Faults.{faultOf}
 
 -- ---- reading record after record
@@ -33,7 +33,7 @@ isEnd r = eqb (kindOf r) 10
 abbrev pub queryRules : Scheme → Rules (List Record)
 queryRules s = record {
   allowed = ofQuery;
-  fault = λ rs r. faultOf s (length (itemsOf rs)) (length (comparisonsOf rs)) r;
+  fault = λ rs r. faultOf s (askedOf (asks rs)) r;
   taken = λ rs r at. rs ++ r ∷ [];
   isLast = isEnd;
   unended = 3;
@@ -51,7 +51,7 @@ stopNumber (Found r next) = 0
 
 -- what the code has of a walk
 unfoldable pub walkedOf : Stop (List Record) → Walked
-walkedOf w = record { refusal = w .number; asked = askedOf (w .state); at = w .at }
+walkedOf w = record { refusal = w .number; asked = askedOf (asks (w .state)); at = w .at }
 
 -- ---- maximal objects that contain a set: "In each M that contains X"
 
@@ -82,31 +82,31 @@ wholeNumber s Ms q =
 
 -- ---- the query
 
--- what reading gives: a refused query has the records before the fault and 0 bytes read
+-- what reading gives: a refused query has what the records before the fault ask, and 0 bytes read
 pub record QueryOutcome : Type 0 where
   pub number : ℕ
-  pub records : List Record
+  pub asking : Asking
   pub read : ℕ
 
-abbrev pub refusedWith : ℕ → List Record → QueryOutcome
-refusedWith n rs = record { number = n; records = rs; read = 0 }
+abbrev pub refusedWith : ℕ → Asking → QueryOutcome
+refusedWith n q = record { number = n; asking = q; read = 0 }
 
 -- after the end of the query
-unfoldable pub atEnd : ℕ → List Record → ℕ → QueryOutcome
-atEnd n rs at = elim (eqb n 0) [ true ↦ record { number = 0; records = rs; read = at } | false ↦ refusedWith n rs ]
+unfoldable pub atEnd : ℕ → Asking → ℕ → QueryOutcome
+atEnd n q at = elim (eqb n 0) [ true ↦ record { number = 0; asking = q; read = at } | false ↦ refusedWith n q ]
 
 -- "on the query, 1; for each record 2, 3, 4, 5, 7 ..", then what is wrong with the whole
 unfoldable pub read : Scheme → List ℕ → List ℕ → QueryOutcome
 read s Ms b =
     elim (ltb 65536 (length b)) [
-      | true ↦ refusedWith 1 []
+      | true ↦ refusedWith 1 (asks [])
       | false ↦ elim (eqb (walkQuery s b .number) 0) [
-        | true ↦ atEnd (wholeNumber s Ms (askedOf (walkQuery s b .state))) (walkQuery s b .state) (walkQuery s b .at)
-        | false ↦ refusedWith (walkQuery s b .number) (walkQuery s b .state)
+        | true ↦ atEnd (wholeNumber s Ms (askedOf (asks (walkQuery s b .state)))) (asks (walkQuery s b .state)) (walkQuery s b .at)
+        | false ↦ refusedWith (walkQuery s b .number) (asks (walkQuery s b .state))
       ]
     ]
 
 -- ---- what the code gives
 
 unfoldable pub queryOf : QueryOutcome → Query
-queryOf o = record { refusal = o .number; asked = askedOf (o .records); read = o .read }
+queryOf o = record { refusal = o .number; asked = askedOf (o .asking); read = o .read }

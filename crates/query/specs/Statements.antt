@@ -20,7 +20,9 @@ use Rattle.scheme.specs.declared.Scheme.{Scheme}
 use Rattle.scheme.specs.Statements.{LeavesOut}
 use Rattle.query.specs.declared.QueryItem.{QueryItem}
 use Rattle.query.specs.declared.Comparison.{Comparison}
-use Rattle.query.specs.Asking.{itemsOf, comparisonsOf, attributesNamed, ofTwo, withCell, askedOf}
+use Rattle.query.specs.declared.Asked.{Asked}
+use Rattle.query.specs.Asking.{ofTwo, withCell, comparisonsIn, Asking, Named, NamesWhole, attributesNamed, asks}
+use Rattle.query.specs.Asking.{askedOf}
 use Rattle.query.specs.Faults.{faultOf}
 use Rattle.query.specs.Conditions.{conditions}
 use Rattle.query.specs.Reading.{containing, QueryOutcome, refusedWith, read}
@@ -29,8 +31,8 @@ use Rattle.query.specs.Accepting.{NamedIn, Contains, OfWhole, Accepted, 
 -- ---- the fault of a record
 
 -- a number is given exactly if its condition holds and none before it does; 0 exactly if none holds
-pub record FaultMeans (s : Scheme) (items comparisons : ℕ) (r : Record) : Type 0 where
-  pub exactly : (n : ℕ) → (faultOf s items comparisons r ≡ n) ↔ First (conditions s items comparisons r) n
+pub record FaultMeans (s : Scheme) (q : Asked) (r : Record) : Type 0 where
+  pub exactly : (n : ℕ) → (faultOf s q r ≡ n) ↔ First (conditions s q r) n
 
 -- ---- what records ask
 
@@ -43,18 +45,24 @@ pub data SaysComparison : Record → Comparison → Type 0 where
   constant : {v a operator cell : ℕ}
       → SaysComparison (OfQuery (CompareConstant v a operator cell)) (withCell v a operator cell)
 
--- the items and the comparisons are the fields of the records, in their order, all of them and no other; "X is every
--- attribute named with it"
+-- the items and the comparisons are the fields of the records, in their order, all of them and no other; the names are
+-- those that a record has; "X is every attribute named with it"
 pub record RecordsAsk (rs : List Record) : Type 0 where
-  pub items : Gathered SaysItem rs (itemsOf rs)
-  pub comparisons : Gathered SaysComparison rs (comparisonsOf rs)
-  pub attributes : (v a : ℕ) → (a ∈ attributesNamed rs v) ↔ NamedIn rs v a
+  pub items : Gathered SaysItem rs (asks rs .items)
+  pub comparisons : Gathered SaysComparison rs (comparisonsIn (asks rs .condition))
+  pub names : (v a : ℕ) → Named (asks rs) v a ↔ NamedIn rs v a
+  pub whole : NamesWhole (asks rs)
+  pub attributes : (v a : ℕ) → (a ∈ attributesNamed (asks rs) v) ↔ NamedIn rs v a
 
--- what the code has of accepted records is whole
-pub record AskedWhole (rs : List Record) : Type 0 where
-  pub items : take (askedOf rs .retrieved) (askedOf rs .items) ≡ itemsOf rs
-  pub comparisons : take (askedOf rs .compared) (askedOf rs .comparisons) ≡ comparisonsOf rs
-  pub attributes : (v : ℕ) → v < 4 → getD (askedOf rs .attributes) v 0 ≡ attributesNamed rs v
+-- "X is every attribute named with it", for whatever a query asks
+pub record AttributesAre (q : Asking) : Type 0 where
+  pub attributes : (v a : ℕ) → (a ∈ attributesNamed q v) ↔ Named q v a
+
+-- what the code has of it is whole
+pub record AskedWhole (q : Asking) : Type 0 where
+  pub items : take (askedOf q .retrieved) (askedOf q .items) ≡ q .items
+  pub comparisons : take (askedOf q .compared) (askedOf q .comparisons) ≡ comparisonsIn (q .condition)
+  pub attributes : (v : ℕ) → v < 4 → getD (askedOf q .attributes) v 0 ≡ attributesNamed q v
 
 -- ---- maximal objects that contain a set
 
@@ -67,16 +75,14 @@ pub record ContainingList (sets Ms : List ℕ) (X : ℕ) : Type 0 where
 
 pub record ReadExactly (s : Scheme) (Ms b : List ℕ) : Type 0 where
   -- "Then, on the query, 1": "bytes after a query's kind 10 counted"
-  pub over : 65536 < length b → read s Ms b ≡ refusedWith 1 []
+  pub over : 65536 < length b → read s Ms b ≡ refusedWith 1 (asks [])
   pub exactly : length b ≤ 65536 → (o : QueryOutcome) → (read s Ms b ≡ o) ↔ StopsWith s Ms b o
 
 -- what accepted records ask fits: "items 1 to 8; comparisons 0 to 16 in all"
 pub record AcceptedFits (s : Scheme) (b : List ℕ) : Type 0 where
-  pub asks : (rs : List Record) (at : ℕ) → Accepted s b rs at → AskedWhole rs
-  -- also with kind 10 behind them
-  pub ends : (rs : List Record) (at : ℕ) → Accepted s b rs at → AskedWhole (rs ++ OfQuery End ∷ [])
+  pub whole : (rs : List Record) (at : ℕ) → Accepted s b rs at → AskedWhole (asks rs)
   -- "variables 0 to 3"; "attribute, id 0..31"
-  pub named : (rs : List Record) (at v a : ℕ) → Accepted s b rs at → NamedIn rs v a → (v < 4) × (a < ATTRIBUTES)
+  pub named : (rs : List Record) (at v a : ℕ) → Accepted s b rs at → Named (asks rs) v a → (v < 4) × (a < ATTRIBUTES)
 
 -- ---- the number
 
@@ -101,7 +107,7 @@ pub record Ended (s : Scheme) (Ms b : List ℕ) (n : ℕ) : Type 0 where
   pub next : ℕ
   pub accepted : Accepted s b passed at
   pub atKindTen : readAt b at ≡ Found (OfQuery End) next
-  pub whole : OfWhole s Ms passed n
+  pub whole : OfWhole s Ms (asks passed) n
 
 pub record NumberMeans (s : Scheme) (Ms b : List ℕ) : Type 0 where
   pub oneOf : (n : ℕ) → read s Ms b .number ≡ n

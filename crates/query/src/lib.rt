@@ -54,11 +54,11 @@ pub struct Query {
     pub read: usize,
 }
 
-// The faults of kinds 7 to 9, each by the paper's order, behind so many items (retrieved) and comparisons (compared).
-fn item_fault(s: Scheme, retrieved: usize, compared: usize, variable: u8, attribute: u8) -> u8
-    ensures { λ r. ⌜ r ≡ faultOf s retrieved compared (Record.OfQuery (QueryRecord.Item variable attribute)) ⌝ }
+// The faults of kinds 7 to 9, each by the paper's order, behind what the records before ask.
+fn item_fault(s: Scheme, q: Asked, variable: u8, attribute: u8) -> u8
+    ensures { λ r. ⌜ r ≡ faultOf s q (Record.OfQuery (QueryRecord.Item variable attribute)) ⌝ }
 {
-    if retrieved >= 8 {
+    if q.retrieved >= 8 {
         return 4;
     }
     if variable > 3 {
@@ -75,17 +75,16 @@ fn item_fault(s: Scheme, retrieved: usize, compared: usize, variable: u8, attrib
 
 fn two_fault(
     s: Scheme,
-    retrieved: usize,
-    compared: usize,
+    q: Asked,
     variable: u8,
     attribute: u8,
     operator: u8,
     variable2: u8,
     attribute2: u8,
 ) -> u8
-    ensures { λ r. ⌜ r ≡ faultOf s retrieved compared (Record.OfQuery (QueryRecord.CompareTwo variable attribute operator variable2 attribute2)) ⌝ }
+    ensures { λ r. ⌜ r ≡ faultOf s q (Record.OfQuery (QueryRecord.CompareTwo variable attribute operator variable2 attribute2)) ⌝ }
 {
-    if compared >= 16 {
+    if q.compared >= 16 {
         return 4;
     }
     if variable > 3 {
@@ -118,18 +117,10 @@ fn two_fault(
     0
 }
 
-fn constant_fault(
-    s: Scheme,
-    retrieved: usize,
-    compared: usize,
-    variable: u8,
-    attribute: u8,
-    operator: u8,
-    cell: u32,
-) -> u8
-    ensures { λ r. ⌜ r ≡ faultOf s retrieved compared (Record.OfQuery (QueryRecord.CompareConstant variable attribute operator cell)) ⌝ }
+fn constant_fault(s: Scheme, q: Asked, variable: u8, attribute: u8, operator: u8, cell: u32) -> u8
+    ensures { λ r. ⌜ r ≡ faultOf s q (Record.OfQuery (QueryRecord.CompareConstant variable attribute operator cell)) ⌝ }
 {
-    if compared >= 16 {
+    if q.compared >= 16 {
         return 4;
     }
     if variable > 3 {
@@ -160,49 +151,38 @@ fn constant_fault(
 }
 
 // The fault of a whole record of a query, 0 where it has none.
-fn query_fault(s: Scheme, retrieved: usize, compared: usize, r: QueryRecord) -> u8
-    ensures { λ n. ⌜ n ≡ faultOf s retrieved compared (Record.OfQuery r) ⌝ }
+fn query_fault(s: Scheme, q: Asked, r: QueryRecord) -> u8
+    ensures { λ n. ⌜ n ≡ faultOf s q (Record.OfQuery r) ⌝ }
 {
     match r {
         QueryRecord::Item {
             variable,
             attribute,
-        } => item_fault(s, retrieved, compared, variable, attribute),
+        } => item_fault(s, q, variable, attribute),
         QueryRecord::CompareTwo {
             variable,
             attribute,
             operator,
             variable2,
             attribute2,
-        } => {
-            two_fault(
-                s,
-                retrieved,
-                compared,
-                variable,
-                attribute,
-                operator,
-                variable2,
-                attribute2,
-            )
-        }
+        } => { two_fault(s, q, variable, attribute, operator, variable2, attribute2) }
         QueryRecord::CompareConstant {
             variable,
             attribute,
             operator,
             cell,
-        } => { constant_fault(s, retrieved, compared, variable, attribute, operator, cell) }
+        } => { constant_fault(s, q, variable, attribute, operator, cell) }
         QueryRecord::End => 0,
     }
 }
 
 // The fault of a whole record: a book's may not stand in a query.
-fn fault(s: Scheme, retrieved: usize, compared: usize, r: Record) -> u8
-    ensures { λ n. ⌜ n ≡ faultOf s retrieved compared r ⌝ }
+fn fault(s: Scheme, q: Asked, r: Record) -> u8
+    ensures { λ n. ⌜ n ≡ faultOf s q r ⌝ }
 {
     match r {
         Record::OfBook(_) => 2,
-        Record::OfQuery(record) => query_fault(s, retrieved, compared, record),
+        Record::OfQuery(record) => query_fault(s, q, record),
     }
 }
 
@@ -309,7 +289,7 @@ fn with_constant(q: Asked, variable: u8, attribute: u8, operator: u8, cell: u32)
 
 // What a record of a query without a fault adds.
 fn with_query_record(s: Scheme, q: Asked, r: QueryRecord) -> Asked
-    requires { ⌜ faultOf s (q .retrieved) (q .compared) (Record.OfQuery r) ≡ 0 ⌝ }
+    requires { ⌜ faultOf s q (Record.OfQuery r) ≡ 0 ⌝ }
     ensures { λ d. ⌜ d ≡ withRecord q (Record.OfQuery r) ⌝ }
 {
     match r {
@@ -342,7 +322,7 @@ fn with_query_record(s: Scheme, q: Asked, r: QueryRecord) -> Asked
 
 // What a record without a fault adds; a book's stands in no query.
 fn with_record(s: Scheme, q: Asked, r: Record) -> Asked
-    requires { ⌜ faultOf s (q .retrieved) (q .compared) r ≡ 0 ⌝ }
+    requires { ⌜ faultOf s q r ≡ 0 ⌝ }
     ensures { λ d. ⌜ d ≡ withRecord q r ⌝ }
 {
     match r {
@@ -401,7 +381,7 @@ fn walk(bytes: &[u8], s: Scheme) -> Walked
                 at,
             };
         };
-        let refusal = fault(s, asked.retrieved, asked.compared, r);
+        let refusal = fault(s, asked, r);
         if refusal != 0 {
             return Walked { refusal, asked, at };
         }

@@ -10,9 +10,6 @@ use native.Mathlib.Nat.{not-suc-le-zero, le-of-suc-le-suc, mul-le-mul-left}
 use native.Mathlib.Omega.{arith}
 use lib.ListN.{length, getD, length-map}
 use Rattle.values.specs.Values.{inRange}
-use Rattle.records.specs.declared.Record.{Record}
-use Rattle.records.specs.declared.Record.the-variants.{OfQuery}
-use Rattle.records.specs.declared.QueryRecord.the-variants.{End}
 use Rattle.records.proofs.Reader.{whole-readAt, found-after}
 use Rattle.relation.specs.Tables.{Row}
 use Rattle.scheme.specs.OfScheme.{maximalOf}
@@ -20,7 +17,8 @@ use Rattle.book.specs.Reading.{Outcome, read}
 use Rattle.book.proofs.Theorems.{scheme-well-formed}
 use Rattle.query.specs.declared.QueryItem.{QueryItem}
 use Rattle.query.specs.Reading as Query
-use Rattle.query.specs.Asking.{itemsOf}
+use Rattle.query.specs.Asking as Askings
+use Rattle.query.specs.Asking.{Asking}
 use Rattle.query.specs.Accepting.{answered}
 use Rattle.query.proofs.Theorems as Queries
 use Rattle.sorted.specs.Rows.{rowsIn}
@@ -29,7 +27,8 @@ use Rattle.connection.specs.Answering.{queryRead, rowsAnswered, number, spaceAf
 use Rattle.connection.specs.Outcomes.{Good, MoreSerials, itemCount, cellsNeeded}
 use Rattle.connection.proofs.Theorems.{names-in-range, answer-in-range, answer-number-means, demand1}
 use Rattle.connection.proofs.Picks.{at-member}
-use Rattle.answer.proofs.Asked.{Asks, query-asks, not-none}
+use Rattle.answer.specs.Asked.{Asks}
+use Rattle.answer.proofs.Asked.{query-asks, not-none}
 use Rattle.printout.specs.Lines.{headLine, rowLines, answerText, FitToPrint}
 use Rattle.printout.proofs.Fit.{cell-at}
 use Rattle.printout.proofs.Theorems.{room-enough}
@@ -48,8 +47,8 @@ kinds-known o f (i ∷ items) (suc j) h = kinds-known o f items j (le-of-suc-le-
 rows-few : (rows items : ℕ) {n : ℕ} → 1 ≤ items → rows * items ≤ n → rows ≤ n
 rows-few rows items h k = omega (arith, mul-le-mul-left rows h, k)
 
-abbrev askedIn : List ℕ → List ℕ → List Record
-askedIn b q = queryRead (read b) q .records
+abbrev askedIn : List ℕ → List ℕ → Asking
+askedIn b q = queryRead (read b) q .asking
 
 module _ (b q : List ℕ) (serial : ℕ) (z : numberOf b q serial ≡ 0) where
   known : Good b q × MoreSerials serial × (cellsNeeded b q ≤ room)
@@ -60,10 +59,10 @@ module _ (b q : List ℕ) (serial : ℕ) (z : numberOf b q serial ≡ 0) where
 
   kinds-wide : length (kindsOf b q) ≡ itemCount b q
   unfolding itemKinds
-  kinds-wide = length-map (itemsOf (askedIn b q)) (kindOf (read b))
+  kinds-wide = length-map (askedIn b q .items) (kindOf (read b))
 
   some-items : 1 ≤ itemCount b q
-  some-items = not-none (itemsOf (askedIn b q)) (asks .some)
+  some-items = not-none (askedIn b q .items) (asks .some)
 
   cells-few : length (rowsAnswered b q) * itemCount b q ≤ 8192
   cells-few = let (g, m, c) = known in c
@@ -100,7 +99,7 @@ module _ (b q : List ℕ) (serial : ℕ) (z : numberOf b q serial ≡ 0) where
       someItems = omega (arith, kinds-wide, some-items);
       fewItems = omega (arith, kinds-wide, asks .eight);
       knownKinds = λ j h.
-          kinds-known (read b) (scheme-well-formed b .wellFormed .kindsBelow) (itemsOf (askedIn b q)) j
+          kinds-known (read b) (scheme-well-formed b .wellFormed .kindsBelow) (askedIn b q .items) j
           (omega (arith, h, kinds-wide));
       fewRows = omega (arith, rows-few (length (rowsAnswered b q)) (itemCount b q) some-items cells-few);
       enoughCells =
@@ -130,7 +129,7 @@ module _ (b q : List ℕ) (serial : ℕ) (z : numberOf b q serial ≡ 0) where
       let (g, m, c) = known in
       let (h, e) =
       Queries.number-means (read b .scheme) (maximalOf (read b .scheme)) q .ofWhole 0 (inl refl) .0 (g .1) in
-      let o : Query.QueryOutcome = record { number = 0; records = e .passed ++ OfQuery End ∷ []; read = e .next } in
+      let o : Query.QueryOutcome = record { number = 0; asking = Askings.asks (e .passed); read = e .next } in
       let w : queryRead (read b) q ≡ o =
       Queries.read-exactly (read b .scheme) (maximalOf (read b .scheme)) q .exactly h o .1
       (answered (e .accepted) (e .atKindTen) (e .whole)) in

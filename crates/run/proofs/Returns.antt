@@ -11,7 +11,6 @@ use native.Mathlib.Omega.{arith}
 use borrow.Author.Tests.{eq-eqb, ne-eqb, lt-ltb, le-ltb, eqb-true, eqb-false}
 use lib.Dec.{eqb, ltb}
 use lib.ListN.{length, getD, take, drop}
-use Rattle.sets.specs.Sets.{ATTRIBUTES}
 use Rattle.sets.proofs.Tests.{yes-or-no}
 use Rattle.book.specs.declared.Book.{Book}
 use Rattle.book.specs.Reading.{read, bookOf}
@@ -21,21 +20,23 @@ use Rattle.query.specs.declared.Asked.{Asked}
 use Rattle.query.specs.Reading as Querying
 use Rattle.scheme.specs.declared.Scheme.{Scheme}
 use Rattle.terms.specs.declared.Terms.{Terms}
-use Rattle.terms.specs.Terms.{InRange, TermsOf}
+use Rattle.terms.specs.Terms.{TermsOf}
 use Rattle.connection.specs.declared.Answer.{Answer}
 use Rattle.connection.specs.Answers.{kindOf, itemKinds}
 use Rattle.connection.specs.Answering.{queryRead, rowsAnswered, number, refused, answerOf, spaceAfter}
 use Rattle.connection.proofs.Theorems.{answer-number-means}
-use Rattle.answer.proofs.Asked.{query-asks}
-use Rattle.answer.proofs.Returning.{number-is, scheme-is, query-number, asked-is, asked-ready}
+use Rattle.answer.specs.Asked.{AskedBy, Askable, AnswersAsked, FillsAsked}
+use Rattle.answer.proofs.Returning.{number-is, scheme-is, query-number, asked-ready, refused-query, asked-by}
+use Rattle.answer.proofs.Returning.{answered-whole}
 use Rattle.printout.specs.Lines.{bookRefused, queryRefused}
 use Rattle.printout.specs.Printing.{printed, after, answerPrinted, afterAnswer}
 use Rattle.printout.specs.declared.Printed.{Printed}
 use Rattle.printout.proofs.Theorems.{text-printed, answer-printed, room-enough}
 use Rattle.run.specs.declared.Stepped.{Stepped}
 use Rattle.run.specs.declared.ItemKinds.{ItemKinds}
-use Rattle.run.specs.Running.{room, numberOf, kindsOf, fullText, textOf, openingText, bytesOf, openingOf, stepOf}
-use Rattle.run.specs.Items.{GoodQuery, KindsOf, NoKinds, itemKindsOf, ItemKindsOf}
+use Rattle.run.specs.Running.{room, numberOf, kindsOf, fullText, textOf, openingText, bytesOf, openingOf}
+use Rattle.run.specs.Running.{stopped, stepOf}
+use Rattle.run.specs.Items.{GoodAsked, KindsOf, NoKinds, itemKindsOf, ItemKindsOf}
 use Rattle.run.proofs.Answering.{answered-prints}
 use Rattle.run.proofs.Items.{none-of-book, none-of-query, those-of-items}
 use Rattle.run.proofs.Stepping.{step-answered, step-refused, text-answered, text-refused, goes, below-256}
@@ -63,6 +64,13 @@ Opens refusal input out r end =
 abbrev ended : ℕ → ℕ → Stepped
 ended n serial = record { printed = n; read = 0; serial = serial; more = false }
 
+pub refuses : (n serial : ℕ) (out : List ℕ) → n < 256 → 98327 ≤ length out → {p : Printed} {m : ℕ} {end : List ℕ}
+    → m ≡ bytesOf p → p ≡ printed (queryRefused n) out → end ≡ after (queryRefused n) out
+    → (ended m serial ≡ stopped n serial) × (end ≡ queryRefused n ++ drop (length (queryRefused n)) out)
+refuses n serial out h room k e f =
+    let (a, s) = stands (queryRefused n) out (omega (arith, room, room-enough .query n h)) k e f in
+    (ap (λ (m : ℕ). ended m serial) a, s)
+
 module _ (refusal input : ℕ) (out : List ℕ) where
   opens : {text end : List ℕ} {n : ℕ} {more : Bool} → text ≡ openingText refusal input → more ≡ goes (eqb refusal 0) (ltb 65536 input)
       → Stands text out n end → Opens refusal input out (record { printed = n; read = 0; serial = 0; more = more }) end
@@ -82,12 +90,13 @@ module _ (refusal input : ℕ) (out : List ℕ) where
         opens {text = bookRefused refusal} (rw (openingText, ne-eqb refusal 0 d)) (sym (ap (λ (t : Bool). goes t (ltb 65536 input)) (ne-eqb refusal 0 d)))
         (stands (bookRefused refusal) out (omega (arith, room, room-enough .book refusal h)) k e f)
 
-    pub opens-long : {p : Printed} {n : ℕ} {end : List ℕ} → refusal ≡ 0 → 65536 < input → n ≡ bytesOf p
-        → p ≡ printed (queryRefused 1) out → end ≡ after (queryRefused 1) out → Opens refusal input out (ended n 0) end
+    pub opens-long : {r : Stepped} {end : List ℕ} → refusal ≡ 0 → 65536 < input → r ≡ stopped 1 0
+        → end ≡ queryRefused 1 ++ drop (length (queryRefused 1)) out → Opens refusal input out r end
     unfolding openingText
-    opens-long z l k e f =
-        opens {text = queryRefused 1} (rw (openingText, eq-eqb refusal 0 z, lt-ltb 65536 input l)) (sym (ap₂ goes (eq-eqb refusal 0 z) (lt-ltb 65536 input l)))
-        (stands (queryRefused 1) out (omega (arith, room, room-enough .query 1 (omega arith))) k e f)
+    opens-long z l k f =
+        let (a, s) = opens {text = queryRefused 1} (rw (openingText, eq-eqb refusal 0 z, lt-ltb 65536 input l))
+        (sym (ap₂ goes (eq-eqb refusal 0 z) (lt-ltb 65536 input l))) (refl, f) in
+        (k ∙ a, s)
 
     pub opens-run : refusal ≡ 0 → input ≤ 65536
         → Opens refusal input out (record { printed = 0; read = 0; serial = 0; more = true }) out
@@ -98,45 +107,19 @@ module _ (refusal input : ℕ) (out : List ℕ) where
 
 -- ---- the value kinds of the items
 
-module _ (b : List ℕ) {book : Book} (e : book ≡ bookOf (read b)) (z : read b .number ≡ 0) (q : List ℕ)
-    {maximal : List ℕ} {query : Query} (m : maximal ≡ take (book .maximals) (book .maximal))
-    (w : query ≡ Querying.queryOf (Querying.read (book .scheme) maximal q)) where
-  good-here : book .refusal ≡ 0
-  good-here = number-is b e ∙ z
-
-  query-good : query .refusal ≡ 0 → queryRead (read b) q .number ≡ 0
-  query-good y = sym (query-number b e good-here q m w) ∙ y
-
-  pub good-query : queryRead (read b) q .number ≡ 0 → query .refusal ≡ 0
-  good-query y = query-number b e good-here q m w ∙ y
-
-  pub asked-good : queryRead (read b) q .number ≡ 0
-      → InRange (query .asked) × (ATTRIBUTES ≤ length (book .scheme .kinds))
-  asked-good y = asked-ready b e good-here q m w (good-query y)
-
-  kinds-are : {t : Terms} → query .refusal ≡ 0 → TermsOf (book .scheme .kinds) (query .asked) t
-      → take (t .retrieved) (t .kinds) ≡ kindsOf b q
-  unfolding itemKinds
-  kinds-are y u =
+pub kinds-found : {book : Book} {asked : Asked} {t : Terms} → GoodAsked book asked
+    → TermsOf (book .scheme .kinds) asked t → KindsOf book asked (record { kinds = t .kinds; items = t .retrieved })
+unfolding itemKinds
+kinds-found {book} {asked} {t} g u = record {
+  long = u .items .long .1;
+  few = omega (arith, u .items .count, asked-ready (g .bytes) (g .isRead) (g .askable) .0 .eight);
+  each = λ b q e w.
       u .items .kindOfEach
       ∙ ap (λ (s : Scheme). map (λ (i : QueryItem). getD (s .kinds) (i .attribute) 0)
-      (take (query .asked .retrieved) (query .asked .items))) (scheme-is b e)
-      ∙ ap (λ (a : Asked). map (kindOf (read b)) (take (a .retrieved) (a .items))) (asked-is b e good-here q m w)
-      ∙ ap (map (kindOf (read b))) (query-asks b q (query-good y) .whole .items)
-
-pub kinds-found : {book : Book} {q maximal : List ℕ} {query : Query} {t : Terms} → GoodQuery book q
-    → maximal ≡ take (book .maximals) (book .maximal)
-    → query ≡ Querying.queryOf (Querying.read (book .scheme) maximal q)
-    → TermsOf (book .scheme .kinds) (query .asked) t
-    → KindsOf book q (record { kinds = t .kinds; items = t .retrieved })
-kinds-found {q = q} g m w u =
-    let y = good-query (g .bytes) (g .isRead) (g .goodBook) q m w (g .goodQuery) in
-    let i = asked-good (g .bytes) (g .isRead) (g .goodBook) q m w (g .goodQuery) .0 in
-    record {
-      long = u .items .long .1;
-      few = omega (arith, u .items .count, i .eight);
-      each = λ b e z. kinds-are b e z q m w y u;
-    }
+      (take (asked .retrieved) (asked .items))) (scheme-is b e)
+      ∙ ap (λ (a : Asked). map (kindOf (read b)) (take (a .retrieved) (a .items))) (w .same)
+      ∙ ap (map (kindOf (read b))) (w .asks .whole .items);
+}
 
 -- the items of a query over the bytes of a book
 module _ (b : List ℕ) {book : Book} (e : book ≡ bookOf (read b)) (q : List ℕ) where
@@ -157,22 +140,20 @@ module _ (b : List ℕ) {book : Book} (e : book ≡ bookOf (read b)) (q : List �
     good-number = sym (number-is b e) ∙ y
 
     pub kinds-no-query : {k : ItemKinds} → (query .refusal ≡ 0 → ⊥) → NoKinds k → ItemKindsOf b q k
-    kinds-no-query d z = none-are z (none-of-query b q (λ x. d (good-query b e good-number q m w x)))
+    kinds-no-query d z = none-are z (none-of-query b q (λ x. d (query-number b e y q m w ∙ x)))
 
-    pub query-there : query .refusal ≡ 0 → GoodQuery book q
-    query-there x = record {
-      bytes = b;
-      isRead = e;
-      goodBook = good-number;
-      goodQuery = query-good b e good-number q m w x;
-    }
+    module _ (x : query .refusal ≡ 0) where
+      pub query-there : GoodAsked book (query .asked)
+      query-there = record { bytes = b; isRead = e; askable = record { asking = _; by = asked-by b e y q m w x } }
 
-    pub kinds-there : {k : ItemKinds} → query .refusal ≡ 0 → KindsOf book q k → ItemKindsOf b q k
-    kinds-there x k = record {
-      long = k .long;
-      few = k .few;
-      are = k .each b e good-number ∙ sym (those-of-items b q good-number (query-good b e good-number q m w x));
-    }
+      pub kinds-there : {k : ItemKinds} → KindsOf book (query .asked) k → ItemKindsOf b q k
+      kinds-there k = record {
+        long = k .long;
+        few = k .few;
+        are =
+            k .each b (queryRead (read b) q .asking) e (asked-by b e y q m w x)
+            ∙ sym (those-of-items b q good-number (sym (query-number b e y q m w) ∙ x));
+      }
 
 -- ---- a step
 
@@ -199,19 +180,15 @@ module _ (b q : List ℕ) (serial : ℕ) (space out : List ℕ) (long : length s
   number-given d =
       ap (λ (x : Answer). x .refusal) answer-here ∙ rw (answerOf, ne-eqb (numberOf b q serial) 0 d)
 
-  pub step-ends : {p : Printed} {n : ℕ} {end : List ℕ} → (a .refusal ≡ 0 → ⊥) → n ≡ bytesOf p
-      → p ≡ printed (queryRefused (a .refusal)) out → end ≡ after (queryRefused (a .refusal)) out
-      → Steps b q serial space out (ended n serial) cells end
-  step-ends d k g f =
+  pub step-ends : {r : Stepped} {end : List ℕ} → (a .refusal ≡ 0 → ⊥) → r ≡ stopped (a .refusal) serial
+      → end ≡ queryRefused (a .refusal) ++ drop (length (queryRefused (a .refusal))) out
+      → Steps b q serial space out r cells end
+  step-ends d k f =
       let c = answer-number d in
       let t : queryRefused (a .refusal) ≡ textOf b q serial =
-      ap queryRefused (number-given c) ∙ text-refused b q serial c in
-      let h : a .refusal < 256 = omega (arith, number-given c, below-256 (answer-number-means b q serial room .oneOf)) in
-      let (x, y) = stands (queryRefused (a .refusal)) out
-      (omega (arith, fits, room-enough .query (a .refusal) h)) k g f in (
-        ap (λ (m : ℕ). ended m serial) (x ∙ ap (λ (v : ℕ). length (queryRefused v)) (number-given c))
-            ∙ step-refused b q serial c,
-        (s, y ∙ ap (λ (l : List ℕ). l ++ drop (length l) out) t),
+      ap queryRefused (number-given c) ∙ text-refused b q serial c in (
+        k ∙ ap (λ (v : ℕ). stopped v serial) (number-given c) ∙ step-refused b q serial c,
+        (s, f ∙ ap (λ (l : List ℕ). l ++ drop (length l) out) t),
       )
 
   -- ---- one that is answered
@@ -230,10 +207,6 @@ module _ (b q : List ℕ) (serial : ℕ) (space out : List ℕ) (long : length s
     }
     unfolding answerOf
     answer-is = answer-here ∙ rw (answerOf, eq-eqb (numberOf b q serial) 0 answered-number)
-
-    pub query-answered : queryRead (read b) q .number ≡ 0
-    query-answered =
-        let (g, m, c) = answer-number-means b q serial room .full .0 answered-number in g .1
 
     -- what is printed is said of the answer that the definition has
     same-answer : {A : Type 0} {kinds : List ℕ} (f : ℕ → ℕ → List ℕ → List ℕ → A) → kinds ≡ kindsOf b q
@@ -260,3 +233,45 @@ module _ (b q : List ℕ) (serial : ℕ) (space out : List ℕ) (long : length s
               ∙ step-answered b q serial answered-number,
           (s, y ∙ ap (λ (l : List ℕ). l ++ drop (length l) out) (text-answered b q serial answered-number)),
         )
+
+-- one whose query is refused for itself, and one whose query is good
+module _ (b q : List ℕ) (serial : ℕ) (space out : List ℕ) (long : length space ≡ room) (fits : 98327 ≤ length out)
+    {book : Book} (e : book ≡ bookOf (read b)) (y : read b .number ≡ 0) {maximal : List ℕ} {query : Query}
+    (m : maximal ≡ take (book .maximals) (book .maximal))
+    (w : query ≡ Querying.queryOf (Querying.read (book .scheme) maximal q)) where
+  good-here : book .refusal ≡ 0
+  good-here = number-is b e ∙ y
+
+  pub query-ends : {r : Stepped} {end : List ℕ} → (query .refusal ≡ 0 → ⊥) → r ≡ stopped (query .refusal) serial
+      → end ≡ queryRefused (query .refusal) ++ drop (length (queryRefused (query .refusal))) out
+      → Steps b q serial space out r space end
+  unfolding refused
+  query-ends d k f =
+      let r : Answer = record { refusal = query .refusal; rows = 0; serial = serial; read = 0 } in
+      let (a, s) = refused-query b e good-here q m w serial space {r = r} d refl in
+      step-ends b q serial space out long fits a s d k f
+
+  module _ (x : query .refusal ≡ 0) where
+    pub query-asked : Askable (query .asked)
+    query-asked = record { asking = _; by = asked-by b e good-here q m w x }
+
+    module _ {a : Answer} {cells : List ℕ}
+        (f : AnswersAsked b (query .asked) (query .read) serial (length space) a)
+        (g : FillsAsked b (query .asked) serial space cells) where
+      given : (a ≡ answerOf b q serial (length space)) × (cells ≡ spaceAfter b q serial space)
+      given = answered-whole b e good-here q m w x space f g
+
+      pub asked-ends : {r : Stepped} {end : List ℕ} → (a .refusal ≡ 0 → ⊥) → r ≡ stopped (a .refusal) serial
+          → end ≡ queryRefused (a .refusal) ++ drop (length (queryRefused (a .refusal))) out
+          → Steps b q serial space out r cells end
+      asked-ends = step-ends b q serial space out long fits (given .0) (given .1)
+
+      pub asked-goes-on : {k : ItemKinds} {end : List ℕ} {p : Printed} {n : ℕ} → a .refusal ≡ 0 → serial < 2 ^ 32
+          → KindsOf book (query .asked) k → n ≡ bytesOf p
+          → p ≡ answerPrinted (a .serial) (a .rows) (take (k .items) (k .kinds)) cells out
+          → end ≡ afterAnswer (a .serial) (a .rows) (take (k .items) (k .kinds)) cells out
+          → Steps b q serial space out
+          (record { printed = n; read = a .read; serial = a .serial; more = true }) cells end
+      asked-goes-on z h k =
+          step-goes-on b q serial space out long fits (given .0) (given .1) z h
+          (k .each b (queryRead (read b) q .asking) e (asked-by b e good-here q m w x))

@@ -9,24 +9,28 @@ use lib.Dec.{eqb}
 use lib.ListN.{length, take}
 use Rattle.book.specs.declared.Book.{Book}
 use Rattle.book.specs.Reading.{read, bookOf}
+use Rattle.query.specs.declared.Asked.{Asked}
+use Rattle.query.specs.Asking.{Asking}
+use Rattle.connection.specs.Answers.{itemKinds}
 use Rattle.connection.specs.Answering.{queryRead}
+use Rattle.answer.specs.Asked.{AskedBy, Askable}
 use Rattle.run.specs.declared.ItemKinds.{ItemKinds}
 use Rattle.run.specs.Running.{kindsOf}
 
 -- ---- a book that was read
 
--- the book is what reading some bytes gave, and neither it nor the query is refused for itself
-pub record GoodQuery (book : Book) (q : List ℕ) : Type 0 where
+-- the book is what reading some bytes gave, and a good query can ask this
+pub record GoodAsked (book : Book) (asked : Asked) : Type 0 where
   pub bytes : List ℕ
   pub isRead : book ≡ bookOf (read bytes)
-  pub goodBook : read bytes .number ≡ 0
-  pub goodQuery : queryRead (read bytes) q .number ≡ 0
+  pub askable : Askable asked
 
--- the kinds are those of the items, whatever bytes the book was read from
-pub record KindsOf (book : Book) (q : List ℕ) (k : ItemKinds) : Type 0 where
+-- the kinds are those of the items, whatever bytes the book was read from and whatever the code has this of
+pub record KindsOf (book : Book) (asked : Asked) (k : ItemKinds) : Type 0 where
   pub long : length (k .kinds) ≡ 8
   pub few : k .items ≤ 8
-  pub each : (b : List ℕ) → book ≡ bookOf (read b) → read b .number ≡ 0 → take (k .items) (k .kinds) ≡ kindsOf b q
+  pub each : (b : List ℕ) (q : Asking) → book ≡ bookOf (read b) → AskedBy asked q
+      → take (k .items) (k .kinds) ≡ itemKinds (read b) q
 
 -- ---- the bytes of a book
 

@@ -27,7 +27,7 @@ numberOf b q serial = number b q serial room
 
 -- the value kinds of its items
 abbrev pub kindsOf : List ℕ → List ℕ → List ℕ
-kindsOf b q = itemKinds (read b) (queryRead (read b) q .records)
+kindsOf b q = itemKinds (read b) (queryRead (read b) q .asking)
 
 -- "An answer prints `Q`, the new serial, `rows`, the count, then one line a row"
 unfoldable pub fullText : List ℕ → List ℕ → ℕ → List ℕ
@@ -94,6 +94,10 @@ openingOf refusal input = record {
   more = elim (eqb refusal 0) [ true ↦ elim (ltb 65536 input) [ true ↦ false | false ↦ true ] | false ↦ false ];
 }
 
+-- a refused query ends the run
+abbrev pub stopped : ℕ → ℕ → Stepped
+stopped n serial = record { printed = length (queryRefused n); read = 0; serial = serial; more = false }
+
 unfoldable pub stepOf : List ℕ → List ℕ → ℕ → Stepped
 stepOf b q serial =
     elim (eqb (numberOf b q serial) 0) [
@@ -103,5 +107,5 @@ stepOf b q serial =
         serial = serial + 1;
         more = true;
       }
-      | false ↦ record { printed = length (queryRefused (numberOf b q serial)); read = 0; serial = serial; more = false }
+      | false ↦ stopped (numberOf b q serial) serial
     ]

@@ -45,7 +45,7 @@ pub record KindsGiven (b q : List ℕ) : Type 0 where
   pub refusedBook : 0 < read b .number → itemKindsOf b q ≡ []
   pub refusedQuery : 0 < queryRead (read b) q .number → itemKindsOf b q ≡ []
   pub good : read b .number ≡ 0 → queryRead (read b) q .number ≡ 0
-      → itemKindsOf b q ≡ itemKinds (read b) (queryRead (read b) q .records)
+      → itemKindsOf b q ≡ itemKinds (read b) (queryRead (read b) q .asking)
 
 -- ---- step after step
 

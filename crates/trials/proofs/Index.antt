@@ -43,25 +43,28 @@ use Rattle.book.specs.TablesOf.{tablesOf}
 use Rattle.book.specs.Accepting.{Accepted}
 use Rattle.book.proofs.Theorems.{fault-means, read-exactly, number-means, accepted-say, row-in-bytes}
 use Rattle.book.proofs.Theorems.{maximal-objects-read, tables-of-book, maximal-objects-of-book, nine-means}
-use Rattle.query.specs.Asking.{itemsOf}
-use Rattle.query.specs.Accepting.{NamedIn, StopsWith as QueryStopsWith}
+use Rattle.query.specs.declared.Asked.{Asked}
+use Rattle.query.specs.Asking.{Asking, Named, asks}
+use Rattle.query.specs.Accepting.{StopsWith as QueryStopsWith}
 use Rattle.query.specs.Faults.{faultOf as queryFault}
 use Rattle.query.specs.Conditions.{conditions as queryConditions}
 use Rattle.query.specs.Reading.{read as readQuery, refusedWith, QueryOutcome}
 use Rattle.query.specs.Statements.{FaultyRecord as QueryFaultyRecord, Unended, Ended}
-use Rattle.query.proofs.Theorems.{records-ask, containing-is-the-list}
+use Rattle.query.proofs.Theorems.{records-ask, attributes-are, containing-is-the-list}
 use Rattle.sorted.specs.Rows.{rowsIn, Ascending, AllOfKinds}
 use Rattle.scheme.specs.KeptSets.{keptFor, Shows}
-use Rattle.connection.specs.Outcomes.{AnswerOutcome, itemCount, cellsNeeded, Good, MoreSerials, AnswerNumberMeans, Demand1}
+use Rattle.connection.specs.Outcomes.{AnswerOutcome, itemCount, cellsNeeded, Good, MoreSerials, AnswerNumberMeans}
+use Rattle.connection.specs.Outcomes.{Demand1}
 use Rattle.connection.specs.Outcomes.{PromiseE}
 use Rattle.connection.specs.Answering.{answerOf, spaceAfter, number, rowsAnswered, queryRead, lastSerial}
 use Rattle.connection.specs.declared.Answer.{Answer}
-use Rattle.connection.specs.Statements.{NamesInRange, AnswerListed, CombinationsGive}
-use Rattle.connection.specs.Answers.{answerRows, InAnswer, itemKinds, Combination, Passes, itemCells, combined}
+use Rattle.connection.specs.Statements.{NamesInRange, AnswerListed, CombinationsGive, ConditionMeans}
+use Rattle.connection.specs.Answers.{answerRows, InAnswer, itemKinds, Combination, Passes, itemCells, combined, Cells}
 use Rattle.connection.specs.Order.{Way, setsNamed, combinationsOf, waysPicked, GivesRow, combinationCount}
 use Rattle.connection.specs.Order.{CombinationBefore}
 use Rattle.connection.specs.Fitting.{tableOf, FitsObject}
-use Rattle.connection.proofs.Theorems.{names-in-range, answer-listed, combinations-give, answer-number-means, demand1}
+use Rattle.connection.proofs.Theorems.{names-in-range, answer-listed, condition-means, combinations-give}
+use Rattle.connection.proofs.Theorems.{answer-number-means, demand1}
 use Rattle.connection.proofs.Theorems.{combinations-counted, combinations-listed, combinations-ordered, promise-e}
 use Rattle.printout.specs.Lines.{bookRefused, queryRefused}
 use Rattle.run.specs.Running.{openingOf, printout, openingText, textOf, fullText, stepOf}
@@ -83,8 +86,8 @@ demand-1 = demand1
 pub record Demand2 (b q : List ℕ) (serial room : ℕ) : Type 0 where
   pub maximalObjects : MaximalObjectsRead b
   pub keptSets : (X : ℕ) (F : Family) → OfAttributes F → KeptByEveryList X F
-  pub answerRows : AnswerListed b (queryRead (read b) q .records)
-  pub combinations : CombinationsGive b (queryRead (read b) q .records)
+  pub answerRows : AnswerListed b (queryRead (read b) q .asking)
+  pub combinations : CombinationsGive b (queryRead (read b) q .asking)
   pub refusalsOfBooks : ReadExactly b × NumberMeans b
   pub cycles : NineMeans b
   pub refusalsOfQueries : QueryStatements.ReadExactly (read b .scheme) (maximalOf (read b .scheme)) q
@@ -95,8 +98,8 @@ pub demand-2 : (b q : List ℕ) (serial room : ℕ) → Demand2 b q serial room
 demand-2 b q serial room = record {
   maximalObjects = maximal-objects-read b;
   keptSets = kept-by-every-list;
-  answerRows = answer-listed b (queryRead (read b) q .records) (names-in-range b q);
-  combinations = combinations-give b (queryRead (read b) q .records) (names-in-range b q);
+  answerRows = answer-listed b (queryRead (read b) q .asking) (names-in-range b q);
+  combinations = combinations-give b (queryRead (read b) q .asking) (names-in-range b q);
   refusalsOfBooks = (read-exactly b, number-means b);
   cycles = nine-means b;
   refusalsOfQueries = (
@@ -259,38 +262,38 @@ module _ (X : ℕ) (F : Family) (o : OfAttributes F) where
   kept-some-cover = kept-by-every-list X F o .someCover
 
 -- answer rows: "each row once, none left out, none extra, in the stated order"
-module _ (b : List ℕ) (rs : List Record) (range : NamesInRange rs) where
-  pub answer-rows : (row : Row) → List·Memᴰ row (answerRows b (read b) rs) ↔ InAnswer b (read b) rs row
-  answer-rows = answer-listed b rs range .rows
+module _ (b : List ℕ) (q : Asking) (range : NamesInRange q) where
+  pub answer-rows : (row : Row) → List·Memᴰ row (answerRows b (read b) q) ↔ InAnswer b (read b) q row
+  answer-rows = answer-listed b q range .rows
 
-  pub answer-ascending : Ascending (itemKinds (read b) rs) (answerRows b (read b) rs)
-  answer-ascending = answer-listed b rs range .ascending
+  pub answer-ascending : Ascending (itemKinds (read b) q) (answerRows b (read b) q)
+  answer-ascending = answer-listed b q range .ascending
 
-  pub answer-of-kinds : AllOfKinds (itemKinds (read b) rs) (answerRows b (read b) rs)
-  answer-of-kinds = answer-listed b rs range .ofKinds
+  pub answer-of-kinds : AllOfKinds (itemKinds (read b) q) (answerRows b (read b) q)
+  answer-of-kinds = answer-listed b q range .ofKinds
 
-  pub answer-only : (l : List Row) → Ascending (itemKinds (read b) rs) l → ((row : Row)
-      → List·Memᴰ row l ↔ InAnswer b (read b) rs row) → l ≡ answerRows b (read b) rs
-  answer-only = answer-listed b rs range .only
+  pub answer-only : (l : List Row) → Ascending (itemKinds (read b) q) l → ((row : Row)
+      → List·Memᴰ row l ↔ InAnswer b (read b) q row) → l ≡ answerRows b (read b) q
+  answer-only = answer-listed b q range .only
 
   pub combinations-rows : (row : Row)
-      → InAnswer b (read b) rs row ↔ ((p : Combination b (read b) rs) × Passes b (read b) rs p × (row ≡ itemCells
-      (itemsOf rs) (combined b (read b) rs p)))
-  combinations-rows = combinations-give b rs range .rows
+      → InAnswer b (read b) q row ↔ ((p : Combination b (read b) q) × Passes b (read b) q p × (row ≡ itemCells
+      (q .items) (combined b (read b) q p)))
+  combinations-rows = combinations-give b q range .rows
 
   -- "A *combination* picks, for every variable, an M that contains its X and one distinct row for each kept set of that
   -- M": the list of them
-  pub combinations-each : (c : List Way) → List·Memᴰ c (combinationsOf b (read b) (setsNamed rs))
-      ↔ ((p : Combination b (read b) rs) × (c ≡ waysPicked rs p))
-  combinations-each = combinations-listed b rs range .each
+  pub combinations-each : (c : List Way) → List·Memᴰ c (combinationsOf b (read b) (setsNamed q))
+      ↔ ((p : Combination b (read b) q) × (c ≡ waysPicked q p))
+  combinations-each = combinations-listed b q range .each
 
-  pub combinations-answer : (row : Row) → List·Memᴰ row (answerRows b (read b) rs)
-      ↔ ((c : List Way) × List·Memᴰ c (combinationsOf b (read b) (setsNamed rs)) × GivesRow b (read b) rs c row)
-  combinations-answer = combinations-listed b rs range .rows
+  pub combinations-answer : (row : Row) → List·Memᴰ row (answerRows b (read b) q)
+      ↔ ((c : List Way) × List·Memᴰ c (combinationsOf b (read b) (setsNamed q)) × GivesRow b (read b) q c row)
+  combinations-answer = combinations-listed b q range .rows
 
-  pub combinations-one-row : (c : List Way) (row other : Row) → GivesRow b (read b) rs c row
-      → GivesRow b (read b) rs c other → row ≡ other
-  combinations-one-row = combinations-listed b rs range .oneRow
+  pub combinations-one-row : (c : List Way) (row other : Row) → GivesRow b (read b) q c row
+      → GivesRow b (read b) q c other → row ≡ other
+  combinations-one-row = combinations-listed b q range .oneRow
 
 -- "the order of combinations is fixed in docs/", and how many there are
 module _ (b Xs : List ℕ) where
@@ -314,7 +317,7 @@ module _ (b Xs : List ℕ) where
   combinations-only = combinations-ordered b Xs .only
 
 module _ (b q : List ℕ) where
-  pub names-each : (v a : ℕ) → NamedIn (queryRead (read b) q .records) v a → (v < 4) × (a < 32)
+  pub names-each : (v a : ℕ) → Named (queryRead (read b) q .asking) v a → (v < 4) × (a < 32)
   names-each = names-in-range b q .each
 
 -- "A refusal is given exactly where its stated condition holds and that of none before it in the fixed order does": of
@@ -357,13 +360,13 @@ module _ (b : List ℕ) where
   book-nine-cover = nine-means b .cover
 
 -- of a query, over every scheme and every list of maximal objects
-module _ (s : Scheme) (items comparisons : ℕ) (r : Record) where
+module _ (s : Scheme) (q : Asked) (r : Record) where
   pub query-fault-exactly : (n : ℕ)
-      → (queryFault s items comparisons r ≡ n) ↔ First (queryConditions s items comparisons r) n
-  query-fault-exactly = Queries.fault-means s items comparisons r .exactly
+      → (queryFault s q r ≡ n) ↔ First (queryConditions s q r) n
+  query-fault-exactly = Queries.fault-means s q r .exactly
 
 module _ (s : Scheme) (Ms b : List ℕ) where
-  pub query-read-over : 65536 < length b → readQuery s Ms b ≡ refusedWith 1 []
+  pub query-read-over : 65536 < length b → readQuery s Ms b ≡ refusedWith 1 (asks [])
   query-read-over = Queries.read-exactly s Ms b .over
 
   pub query-read-exactly : length b ≤ 65536 → (o : QueryOutcome) → (readQuery s Ms b ≡ o) ↔ QueryStopsWith s Ms b o
@@ -478,6 +481,12 @@ tables-of-a-book = tables-of-book
 -- what a query asks is what its records say
 pub query-of-its-records : (rs : List Record) → QueryStatements.RecordsAsk rs
 query-of-its-records = records-ask
+
+pub attributes-of-what-is-asked : (q : Asking) → QueryStatements.AttributesAre q
+attributes-of-what-is-asked = attributes-are
+
+pub condition-of-all-comparisons : (o : BookOutcome) (at : Cells) → ConditionMeans o at
+condition-of-all-comparisons = condition-means
 
 pub maximal-objects-that-contain : (sets Ms : List ℕ) (X : ℕ) → QueryStatements.ContainingList sets Ms X
 maximal-objects-that-contain = containing-is-the-list

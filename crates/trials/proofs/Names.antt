@@ -91,6 +91,7 @@ use Rattle.plan.proofs.plan_object.Met.{met as plan-plan-object}
 use Rattle.connection.proofs.refused.Met.{met as connection-refused}
 use Rattle.choices.proofs.nothing_planned.Met.{met as choices-nothing-planned}
 use Rattle.choices.proofs.choose.Met.{met as choices-choose}
+use Rattle.answer.proofs.answer_asked.Met.{met as answer-answer-asked}
 use Rattle.answer.proofs.answer_book.Met.{met as answer-answer-book}
 use Rattle.answer.proofs.answer_bytes.Met.{met as answer-answer-bytes}
 use Rattle.printout.proofs.decimal_length.Met.{met as printout-decimal-length}
@@ -144,7 +145,7 @@ use Rattle.relation.proofs.Examples.{trials-hold, each-may-stand, paired-agree,
 use Rattle.relation.proofs.Examples.{leads-and-no-trips-disagree, apart-disagrees, gap-agrees, gap-adds-a-row}
 use Rattle.relation.proofs.Examples.{own-gap-agrees, own-gap-none-missing, own-gap-equal}
 use Rattle.query.proofs.Theorems as Queries
-use Rattle.query.proofs.Theorems.{records-ask, containing-is-the-list, accepted-fits}
+use Rattle.query.proofs.Theorems.{records-ask, attributes-are, containing-is-the-list, accepted-fits}
 use Rattle.query.proofs.Examples.{trials-hold as query-trials-hold}
 use Rattle.sorted.proofs.Theorems.{rows-ordered, determined-by-members, row-more, rows-more, rows-sorted}
 use Rattle.sorted.proofs.Theorems.{ascending-by-first-columns, next-same}
@@ -154,7 +155,7 @@ use Rattle.search.proofs.Theorems.{combinations-fit, fill-means, live-decides}
 use Rattle.search.proofs.Examples.{trials-hold as search-trials-hold, between-holds}
 use Rattle.plan.proofs.Theorems.{rows-read, rows-apart}
 use Rattle.connection.proofs.Theorems.{names-in-range, connection-listed, answer-listed, combinations-give, answer-fits}
-use Rattle.connection.proofs.Theorems.{answer-in-range, comparison-means}
+use Rattle.connection.proofs.Theorems.{answer-in-range, comparison-means, condition-means}
 use Rattle.connection.proofs.Theorems.{combinations-counted, combinations-listed, combinations-ordered}
 use Rattle.connection.proofs.Theorems.{one-kept-set, answer-number-means, demand1, promise-e}
 use Rattle.connection.proofs.Examples.{outcomes-hold, rows-hold, order-holds}

@@ -37,6 +37,7 @@ use Rattle.book.specs.Reading.{maximalsOf}
 use Rattle.book.proofs.Examples.{survey, ring}
 use Rattle.values.specs.Table.{builtIn, allows, mirrored, entryKeeps, everyBelow, keepsRules}
 use Rattle.query.specs.Asking.{itemOf, itemsOf, comparisonOf, comparisonsOf, nameOf, namesOf, naming, attributesNamed}
+use Rattle.query.specs.Asking.{comparisonsIn, conjunction}
 use Rattle.query.specs.Asking.{filled, askedOf}
 use Rattle.query.specs.Faults as Queries
 use Rattle.query.specs.Reading as Query
@@ -50,12 +51,12 @@ use Rattle.book.specs.TablesOf as Tables
 use Rattle.book.specs.TablesOf.{tablesOf}
 use Rattle.sorted.specs.Rows.{lessRow, insertRow, insertRows}
 use Rattle.connection.specs.Connection.{parts, connection}
-use Rattle.connection.specs.Answers.{itemCells, rightCell, isTrue, allTrue, cellsOf, rowsFor}
+use Rattle.connection.specs.Answers.{itemCells, rightCell, isTrue, meets, cellsOf, rowsFor}
 use Rattle.connection.specs.Picks.{inFront, picksOf}
 use Rattle.connection.specs.Answers.{choices}
 use Rattle.connection.specs.Answers.{itemKinds, answerRows}
 use Rattle.connection.specs.Answers as Answers
-use Rattle.connection.specs.Answering.{rowsAnswered, spaceNumber, number}
+use Rattle.connection.specs.Answering.{rowsAnswered, spaceNumber, askedNumber, number}
 use Rattle.connection.proofs.Examples.{queries}
 use Rattle.printout.specs.Decimal.{decimalWithin, decimal, integerText, valueText, cellText}
 use Rattle.printout.specs.Lines.{behind, line, cellTexts, rowLines, headLine, queryRefused, bookRefused}
@@ -240,11 +241,11 @@ all-hold :
 unfolding gapRuns noted noting gaps datedRuns asked club dated refused keepsRules entryKeeps everyBelow mirrored
     withTable withMasks runs run apart first second twelve stopped output queries printout answers answersWithin fullText headLine
     rowLines cellTexts line behind bookRefused queryRefused cellText valueText integerText decimal decimalWithin number
-    spaceNumber rowsAnswered answerRows itemKinds choices picksOf inFront rowsFor cellsOf allTrue isTrue rightCell itemCells
+    spaceNumber askedNumber rowsAnswered answerRows itemKinds choices picksOf inFront rowsFor cellsOf meets isTrue rightCell itemCells
     Answers.rowsChosen connection parts insertRows insertRow lessRow tablesOf Tables.rowsOf Tables.rowOf Tables.cellsOf part
     joinRows goingOn eachPassing matchesAll rowsMatch allPass shownRows together project projected holds compares
     matches lessCell valueOf signed refusal Query.read atEnd wholeNumber someUnconnected unconnected isNil containing
-    walkQuery isEnd Queries.faultOf Queries.checks ofQuery askedOf filled attributesNamed naming namesOf nameOf
+    walkQuery isEnd Queries.faultOf Queries.checks ofQuery askedOf comparisonsIn conjunction filled attributesNamed naming namesOf nameOf
     comparisonsOf comparisonOf itemsOf itemOf allows builtIn starred banking sizes survey ring read afterLast lastFault
     lastNumber records walk walkFrom shortNumber withRow isRow maximalsOf declare withMaximal withOnly withRemoved withDeclared
     withDependency withObject withAttribute nothingDeclared faultOf checks maximalChecks rowChecks wrongCells

@@ -19,12 +19,12 @@ returns : tie.Need-returns
 unfolding faultOf checks firstOf
 returns c =
     let a = c .before .before .args in
-    ap (faultOf (a .s) (a .retrieved) (a .compared)) (sym (c .enum-told .given .1))
+    ap (faultOf (a .s) (a .q)) (sym (c .enum-told .given .1))
 
 returns-2 : tie.Need-returns-2
 returns-2 c =
     let a = c .before .before .before .before .args in
-    c .query-fault .ensures ∙ ap (faultOf (a .s) (a .retrieved) (a .compared)) (sym (c .before .before .r .given .1))
+    c .query-fault .ensures ∙ ap (faultOf (a .s) (a .q)) (sym (c .before .before .r .given .1))
 
 pub fault-spec : {M : Type 1} → statement M
 fault-spec = tie.close (tie.spec enum-told enum-known-r query-fault-requires returns returns-2)

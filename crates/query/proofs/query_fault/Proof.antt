@@ -36,7 +36,7 @@ returns-3 : tie.Need-returns-3
 returns-3 c = search (needs, of-variant)
 
 returns-4 : tie.Need-returns-4
-returns-4 c = of-variant _ _ _ (end-right _ _ _) (c .enum-told .given .1)
+returns-4 c = of-variant _ _ (end-right _ _) (c .enum-told .given .1)
 
 pub query-fault-spec : {M : Type 1} → statement M
 query-fault-spec =

@@ -13,22 +13,22 @@ enum-known-r : tie.Need-enum-known-r
 enum-known-r c = search needs
 
 with-item-requires : tie.Need-with-item-requires
-with-item-requires c κs = item-room _ _ _ (c .before .before .before .pre) _ _ (c .before .r .given .1)
+with-item-requires c κs = item-room _ _ (c .before .before .before .pre) _ _ (c .before .r .given .1)
 
 with-name-requires : tie.Need-with-name-requires
-with-name-requires c κs = item-named _ _ _ (c .before .before .before .before .pre) _ _ (c .before .before .r .given .1)
+with-name-requires c κs = item-named _ _ (c .before .before .before .before .pre) _ _ (c .before .before .r .given .1)
 
 enum-known-r-2 : tie.Need-enum-known-r-2
 enum-known-r-2 c = search needs
 
 with-two-requires : tie.Need-with-two-requires
-with-two-requires c κs = two-fits _ _ _ (c .before .before .before .pre) _ _ _ _ _ (c .before .r2 .given .1)
+with-two-requires c κs = two-fits _ _ (c .before .before .before .pre) _ _ _ _ _ (c .before .r2 .given .1)
 
 enum-known-r-3 : tie.Need-enum-known-r-3
 enum-known-r-3 c = search needs
 
 with-constant-requires : tie.Need-with-constant-requires
-with-constant-requires c κs = constant-fits _ _ _ (c .before .before .before .pre) _ _ _ _ (c .before .r3 .given .1)
+with-constant-requires c κs = constant-fits _ _ (c .before .before .before .pre) _ _ _ _ (c .before .r3 .given .1)
 
 enum-told : tie.Need-enum-told
 enum-told c = search needs

@@ -15,7 +15,7 @@ enum-known-r c = search needs
 with-query-record-requires : tie.Need-with-query-record-requires
 with-query-record-requires c κs =
     let a = c .before .before .before .args in
-    ap (faultOf (a .s) (a .q .retrieved) (a .q .compared)) (sym (c .before .r .given .1))
+    ap (faultOf (a .s) (a .q)) (sym (c .before .r .given .1))
     ∙ c .before .before .before .pre
 
 returns : tie.Need-returns

@@ -23,23 +23,20 @@ returns c =
     opens-book (start .args .refusal) (start .args .input) (start .args .out .now) (start .pre) (omega arith) (if1
     .taken) (c .length-of .ensures) (print-book-refusal .ensures .0) (print-book-refusal .ensures .1)
 
-print-query-refusal-requires : tie.Need-print-query-refusal-requires
-print-query-refusal-requires c κs = search needs
-
-length-of-requires-2 : tie.Need-length-of-requires-2
-length-of-requires-2 c κs = search needs
+refuse-requires : tie.Need-refuse-requires
+refuse-requires c κs = search needs
 
 same-length-2 : tie.Need-same-length-2
 same-length-2 c = search needs
 
 returns-2 : tie.Need-returns-2
 returns-2 c =
-    let start = c .before .before .before .before .before .before .before .before in
-    let if1 = c .before .before .before .before .before .before .if1 in
-    let print-query-refusal = c .before .before .before .print-query-refusal in
-    let if2 = c .before .before .before .before .before .if2 in
+    let start = c .before .before .before .before .before .before .before in
+    let if1 = c .before .before .before .before .before .if1 in
+    let if2 = c .before .before .before .before .if2 in
+    let refuse = c .before .before .refuse in
     opens-long (start .args .refusal) (start .args .input) (start .args .out .now) (start .pre) (if1 .left) (if2
-    .taken) (c .length-of2 .ensures) (print-query-refusal .ensures .0) (print-query-refusal .ensures .1)
+    .taken) (refuse .ensures .0) (refuse .ensures .1)
 
 returns-3 : tie.Need-returns-3
 returns-3 c =
@@ -56,8 +53,7 @@ opening-spec =
     length-of-requires
     same-length
     returns
-    print-query-refusal-requires
-    length-of-requires-2
+    refuse-requires
     same-length-2
     returns-2
     returns-3)

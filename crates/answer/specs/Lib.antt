@@ -1,0 +1,2 @@
+-- The definitions of `answer`. Assumes nothing.
+pub mod Asked
