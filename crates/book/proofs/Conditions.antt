@@ -9,7 +9,7 @@ use mathlib.Core.List.{List, [], ◌∷◌}
 use Prim.Native.Nat.{ℕ, zero, suc, ◌+◌, ◌-◌, ◌≤◌, ◌<◌}
 use native.Mathlib.Nat.{le_refl, le_of_suc-le-suc, eq-or-lt_of_le}
 use native.Mathlib.Omega.{arith}
-use borrow.Author.Tests.{eqb-true, eqb-false, not_true, not-false}
+use borrow.Author.Tests.{eqb-true, eqb-false, not-true, not-false}
 use lib.Dec.{eqb}
 use lib.ListN.{get_or, drop}
 use lib.Seq.{get_or-drop}
@@ -48,7 +48,7 @@ nonzero_yes (c ∷ cells) e =
   where
     front : (some_non_zero cells ≡ true → (i : ℕ) × (get_or cells i 0 ≡ 0 → ⊥))
         → (not (eqb c 0) ≡ true) ⊎ (some_non_zero cells ≡ true) → (i : ℕ) × (get_or (c ∷ cells) i 0 ≡ 0 → ⊥)
-    front later (inl y) = (0, eqb-false c 0 (not_true (eqb c 0) y))
+    front later (inl y) = (0, eqb-false c 0 (not-true (eqb c 0) y))
     front later (inr y) = (suc (later y).0, (later y).1)
 
 nonzero_no : (cells : List ℕ) → some_non_zero cells ≡ false → (i : ℕ) → get_or cells i 0 ≡ 0
@@ -91,7 +91,7 @@ module _ (kinds : List ℕ) (set : ℕ) (cells : List ℕ) where
             attribute = k;
             below = h;
             member = yes_has set k both.0;
-            outside = not_true (in_range (get_or kinds k 0) (cell_of set cells k)) both.1;
+            outside = not-true (in_range (get_or kinds k 0) (cell_of set cells k)) both.1;
           }
 
   pub outside_no : (k : ℕ) → some_outside kinds set cells k ≡ false → (a : ℕ) → a < k → a ∈ set
@@ -138,7 +138,7 @@ maximal_agrees s n set = next (same_le 8 n) (next (same_empty set) (next (same_n
 
 same_rules : (table : List ℕ) → Same (not (keeps_rules table)) (TableRules table → ⊥)
 same_rules table = record {
-  yes = λ e r. yes_no ((rules_tested table).1 r) (not_true (keeps_rules table) e);
+  yes = λ e r. yes_no ((rules_tested table).1 r) (not-true (keeps_rules table) e);
   no = λ e n. n ((rules_tested table).0 (not-false (keeps_rules table) e));
 }
 

@@ -71,7 +71,7 @@ module _ {permits : ℕ → Form} (form : Reduces permits) where
           let z =
           form.nothing (family_of s.sets l.object) (family_of_attributes v l.object) e l.steps
           l.complete in
-          absurd (Memᴰ.not_nil (subst (Memᴰ l.set) z l.left))
+          absurd (Memᴰ.not-nil (subst (Memᴰ l.set) z l.left))
       by false e = (cyclic_is_a_fault s.sets (maximal_of s)).yes l.object l.remaining e
 
   -- ---- the number 9: a scheme with a cycle, and not both kinds

@@ -172,11 +172,11 @@ nothing_said : SchemeSaid [] nothing_declared
 unfolding nothing_declared pairs
 nothing_said = record {
   attributes = record {
-    exactly = λ i v. (λ m. absurd (Memᴰ.not_nil m), λ p. absurd (in_out p.0 (zero_out i)));
+    exactly = λ i v. (λ m. absurd (Memᴰ.not-nil m), λ p. absurd (in_out p.0 (zero_out i)));
     nothing_else = λ i o. get_d_zeros ATTRIBUTES i;
   };
   objects = record {
-    exactly = λ i v. (λ m. absurd (Memᴰ.not_nil m), λ p. absurd (in_out p.0 (zero_out i)));
+    exactly = λ i v. (λ m. absurd (Memᴰ.not-nil m), λ p. absurd (in_out p.0 (zero_out i)));
     nothing_else = λ i o. get_d_zeros OBJECTS i;
   };
   dependencies = ended;
@@ -185,11 +185,11 @@ nothing_said = record {
   maximal = record {
     declared = ended;
     removed = ended;
-    only = (λ y. absurd (false≢true y), λ m. absurd (Memᴰ.not_nil m));
+    only = (λ y. absurd (false≢true y), λ m. absurd (Memᴰ.not-nil m));
     declared_behind = λ i h. get_d_zeros 8 i;
     removed_behind = λ i h. get_d_zeros 8 i;
   };
-  comparisons = built_in_one (λ n l a d m. absurd (Memᴰ.not_nil m)) refl refl;
+  comparisons = built_in_one (λ n l a d m. absurd (Memᴰ.not-nil m)) refl refl;
 }
 
 -- what a record says nothing of stays as it is; its kind is not the one of those records

@@ -155,7 +155,7 @@ module _ {b : List ℕ} {s : Scheme} {rows : List ℕ} (at : ℕ) {next : ℕ} (
 
 accepted_rows_at : {b : List ℕ} {rs : List Record} {h : Held} {at : ℕ} → AcceptedAs b rs h at
     → (p : ℕ) → Memᴰ p h.rows → RowAt b h.scheme p
-accepted_rows_at none p m = absurd (Memᴰ.not_nil m)
+accepted_rows_at none p m = absurd (Memᴰ.not-nil m)
 accepted_rows_at (one {at = at} {r = r} a e f l) p m =
     after (accepted_well_formed a) (with_row_fact at (accepted_well_formed a) (λ q i. accepted_rows_at a q i) r e f p m) r f
 
@@ -170,13 +170,13 @@ row_in_range {s = s} {row = row} k w m = by (eqb w.object k) refl (subst (Memᴰ
     by true e m' =
         subst (λ (j : ℕ). InRange s.kinds (get_or s.sets j 0) row) (eqb-true w.object k e)
         (subst (InRange s.kinds (get_or s.sets w.object 0)) (sym (Memᴰ.eq_of_singleton m')) w.ranged)
-    by false e m' = absurd (Memᴰ.not_nil m')
+    by false e m' = absurd (Memᴰ.not-nil m')
 
 rows_in_range : {b : List ℕ} {s : Scheme} {row : Tables.Row} (k : ℕ) (rows : List ℕ)
     → ((p : ℕ) → Memᴰ p rows → RowAt b s p) → Memᴰ row (rows_of b rows k)
     → InRange s.kinds (get_or s.sets k 0) row
 unfolding rows_of
-rows_in_range k [] h m = absurd (Memᴰ.not_nil m)
+rows_in_range k [] h m = absurd (Memᴰ.not-nil m)
 rows_in_range {b} k (at ∷ rows) h m =
     ⊎_elim (λ m'. row_in_range k (h at (Memᴰ.head refl)) m')
     (λ m'. rows_in_range k rows (λ p i. h p (Memᴰ.tail i)) m')

@@ -106,9 +106,9 @@ nothing_well_formed = record {
   rules = built_in_keeps;
   object_sets = λ k i. absurd (in_out i (zero_out k));
   other_sets = λ k o. get_d_zeros OBJECTS k;
-  sides = λ d m. absurd (Memᴰ.not_nil m);
-  declared_sets = λ M m. absurd (Memᴰ.not_nil m);
-  removed_sets = λ M m. absurd (Memᴰ.not_nil m);
+  sides = λ d m. absurd (Memᴰ.not-nil m);
+  declared_sets = λ M m. absurd (Memᴰ.not-nil m);
+  removed_sets = λ M m. absurd (Memᴰ.not-nil m);
 }
 
 -- ---- what each kind adds

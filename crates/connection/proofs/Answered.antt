@@ -10,7 +10,7 @@ use mathlib.Core.List.{List, [], ◌∷◌, map, Memᴰ}
 use Prim.Native.Nat.{ℕ, zero, suc, ◌<◌, ◌^◌}
 use native.Mathlib.Nat.{not-suc-le-zero, le_of_suc-le-suc}
 use native.Mathlib.Omega.{arith}
-use lib.ListN.{length, get_or, length_map}
+use lib.ListN.{length, get_or, length-map}
 use Rattle.sets.specs.Sets.{is_empty}
 use Rattle.sets.proofs.Sets.{is_empty_no, no_is_empty}
 use Rattle.values.specs.Values.{in_range}
@@ -153,7 +153,7 @@ module _ (b : List ℕ) (bounded : (M : ℕ) → OfAttributes (family_of (read b
   answer_of_kinds : {row : Row} → InAnswer b (read b) q row → OfKinds (item_kinds (read b) q) row
   unfolding item_cells item_kinds cells_of
   answer_of_kinds i = record {
-    wide = ap length i.shows ∙ length_map q.items _ ∙ sym (length_map q.items (kind_of (read b)));
+    wide = ap length i.shows ∙ length-map q.items _ ∙ sym (length-map q.items (kind_of (read b)));
     cells = λ k.
         subst (λ (r : Row). get_or r k 0 < 2 ^ 32) (sym i.shows)
         (items_lt q.items (cells_of q i.picks) (omega arith) (λ t m.
@@ -181,14 +181,14 @@ module _ (b : List ℕ) (bounded : (M : ℕ) → OfAttributes (family_of (read b
   given_of_kinds = record { each = λ r m. answer_of_kinds (choice_answers m) }
 
   none_of_kinds : AllOfKinds (item_kinds (read b) q) []
-  none_of_kinds = record { each = λ r m. absurd (Memᴰ.not_nil m) }
+  none_of_kinds = record { each = λ r m. absurd (Memᴰ.not-nil m) }
 
   pub answer_rows_fact : (row : Row) → Memᴰ row (answer_rows b (read b) q) ↔ InAnswer b (read b) q row
   unfolding answer_rows
   answer_rows_fact row =
       let m = (rows_more (item_kinds (read b) q)).members (rows_chosen (read b) q (choices b (read b) q variables)) []
       given_of_kinds none_of_kinds row in (
-        λ k. ⊎_elim (λ j. choice_answers j) (λ j. absurd (Memᴰ.not_nil j)) (m.0 k),
+        λ k. ⊎_elim (λ j. choice_answers j) (λ j. absurd (Memᴰ.not-nil j)) (m.0 k),
         λ i. m.1 (inl (answer-chosen i)),
       )
 

@@ -37,7 +37,7 @@ module _ (o : Outcome) (at : Cells) where
   pub meets_each : (c : Condition) → meets o c at ≡ true → (x : Comparison) → Memᴰ x (comparisons_in c)
       → is_true o x at ≡ true
   unfolding meets comparisons_in
-  meets_each always e x m = absurd (Memᴰ.not_nil m)
+  meets_each always e x m = absurd (Memᴰ.not-nil m)
   meets_each (compares y) e x m = ap (λ (z : Comparison). is_true o z at) (Memᴰ.eq_of_singleton m) ∙ e
   meets_each (both c d) e x m =
       ⊎_elim (meets_each c (yes_and (meets o c at) (meets o d at) e).0 x)
@@ -72,7 +72,7 @@ module _ (o : Outcome) (q : Asking) where
 
   pub of_rows_chosen : (ls : List (List Row)) {row : Row} → Memᴰ row (rows_chosen o q ls) → Gives ls row
   unfolding rows_chosen
-  of_rows_chosen [] m = absurd (Memᴰ.not_nil m)
+  of_rows_chosen [] m = absurd (Memᴰ.not-nil m)
   of_rows_chosen (l ∷ ls) {row} m = by (meets o q.condition (chosen_cells q l)) refl m (λ i. of_rows_chosen ls i)
     where
       by : (t : Bool) → meets o q.condition (chosen_cells q l) ≡ t

@@ -36,7 +36,7 @@ module _ (b : List ℕ) (o : Outcome) (X : ℕ) where
 
   of_parts : (Ms : List ℕ) {row : Row} → Memᴰ row (parts b o X Ms) → OfPart Ms row
   unfolding parts
-  of_parts [] m = absurd (Memᴰ.not_nil m)
+  of_parts [] m = absurd (Memᴰ.not-nil m)
   of_parts (M ∷ Ms) m =
       ⊎_elim (λ i. record { object = M; there = Memᴰ.head refl; in_part = i })
       (λ i.

@@ -29,7 +29,7 @@ stops_in_range (answered k e w) = asked_in_range k
 
 none_in_range : NamesInRange (asks [])
 unfolding names_of
-none_in_range = record { each = λ v a n. absurd (Memᴰ.not_nil n); whole = (records_ask []).whole }
+none_in_range = record { each = λ v a n. absurd (Memᴰ.not-nil n); whole = (records_ask []).whole }
 
 pub read_in_range : (s : Scheme) (Ms b : List ℕ) → NamesInRange (read s Ms b).asking
 read_in_range s Ms b =

@@ -49,7 +49,7 @@ combinations_size b o Xs =
 module _ (X : ℕ → ℕ) where
   with_only : (vs : List ℕ) {v : ℕ} → Memᴰ v (with_attributes X vs) → Memᴰ v vs × (is_empty (X v) ≡ false)
   unfolding with_attributes
-  with_only [] m = absurd (Memᴰ.not_nil m)
+  with_only [] m = absurd (Memᴰ.not-nil m)
   with_only (u ∷ vs) {v} m = by (is_empty (X u)) refl (λ i. with_only vs i) m
     where
       by : (t : Bool) → is_empty (X u) ≡ t
@@ -62,7 +62,7 @@ module _ (X : ℕ → ℕ) where
 
   with_has : (vs : List ℕ) {v : ℕ} → Memᴰ v vs → is_empty (X v) ≡ false → Memᴰ v (with_attributes X vs)
   unfolding with_attributes
-  with_has [] m n = absurd (Memᴰ.not_nil m)
+  with_has [] m n = absurd (Memᴰ.not-nil m)
   with_has (u ∷ vs) {v} m n = by (is_empty (X u)) refl (λ i. with_has vs i n) m
     where
       by : (t : Bool) → is_empty (X u) ≡ t → (Memᴰ v vs → Memᴰ v (with_attributes X vs)) → Memᴰ v (u ∷ vs)
@@ -92,7 +92,7 @@ ascending_cons {u} h (more n a) =
 four_ascending : InOrder ◌<◌ variables
 four_ascending =
     ascending_cons (omega arith) (ascending_cons (omega arith) (ascending_cons (omega arith)
-    (more (λ y m. absurd (Memᴰ.not_nil m)) none)))
+    (more (λ y m. absurd (Memᴰ.not-nil m)) none)))
 
 module _ (q : Asking) where
   named_ascending : InOrder ◌<◌ (variables_named q)
@@ -135,7 +135,7 @@ module _ {A : Type 0} where
     listed : l ≡ map thing vs
 
   each_had : (P : ℕ → A → Type 0) → A → {vs : List ℕ} {l : List A} → InOrder ◌<◌ vs → Each P vs l → Had P vs l
-  each_had P d a none = record { thing = λ v. d; such = λ v m. absurd (Memᴰ.not_nil m); listed = refl }
+  each_had P d a none = record { thing = λ v. d; such = λ v m. absurd (Memᴰ.not-nil m); listed = refl }
   each_had P d (more n a) (one {i = v} {is = vs} {x} {l} p e) =
       let h = each_had P d a e in
       let f : ℕ → A = with_thing v x h.thing in

@@ -9,7 +9,7 @@ use mathlib.Core.List.{List, [], ◌∷◌, ◌++◌, map, Memᴰ}
 use Prim.Native.Nat.{ℕ, zero, suc, ◌+◌, ◌*◌, ◌<◌, suc-le-suc}
 use native.Mathlib.Nat.{not-suc-le-zero, le_of_suc-le-suc, zero-lt-suc, suc-mul, zero-mul}
 use native.Mathlib.Omega.{arith}
-use lib.ListN.{length, get_or, length-append, length_map}
+use lib.ListN.{length, get_or, length-append, length-map}
 use Rattle.connection.specs.Picks.{in_front, picks_of, product, Before, first, next}
 
 -- ---- elements in front
@@ -25,7 +25,7 @@ module _ {A : Type 0} where
 
   of_in_front : (xs : List A) {ls : List (List A)} {l : List A} → Memᴰ l (in_front xs ls) → InFront xs ls l
   unfolding in_front
-  of_in_front [] m = absurd (Memᴰ.not_nil m)
+  of_in_front [] m = absurd (Memᴰ.not-nil m)
   of_in_front (x ∷ xs) {ls} {l} m =
       ⊎_elim front (λ i. later (of_in_front xs i)) (Memᴰ.append_cases (map (λ q. x ∷ q) ls) m)
     where
@@ -84,7 +84,7 @@ module _ {A : Type 0} where
   in_front_length (x ∷ xs) ls =
       let e : suc (length xs) * length ls ≡ length xs * length ls + length ls = suc-mul (length xs) (length ls) in
       length-append (map (λ l. x ∷ l) ls) (in_front xs ls)
-      ∙ ap₂ (λ (m n : ℕ). m + n) (length_map ls (λ l. x ∷ l)) (in_front_length xs ls)
+      ∙ ap₂ (λ (m n : ℕ). m + n) (length-map ls (λ l. x ∷ l)) (in_front_length xs ls)
       ∙ omega (arith, e)
 
 module _ {I A : Type 0} (F : I → List A) (count : I → ℕ) (counted : (i : I) → length (F i) ≡ count i) where
@@ -168,7 +168,7 @@ module _ {I A : Type 0} {R : I → A → A → Type 0} where
   pub picks_in_order : (F : I → List A) (is : List I) → ((i : I) → Memᴰ i is → InOrder (R i) (F i))
       → InOrder (Before R is) (picks_of (map F is))
   unfolding picks_of
-  picks_in_order F [] h = more (λ y m. absurd (Memᴰ.not_nil m)) none
+  picks_in_order F [] h = more (λ y m. absurd (Memᴰ.not-nil m)) none
   picks_in_order F (i ∷ is) h =
       front_in_order (h i (Memᴰ.head refl)) (picks_in_order F is (λ j m. h j (Memᴰ.tail m)))
 
@@ -204,8 +204,8 @@ module _ {A : Type 0} {R : A → A → Type 0} (not_both : (x y : A) → R x y �
 
   pub order_only : (l m : List A) → InOrder R l → InOrder R m → ((x : A) → Memᴰ x l ↔ Memᴰ x m) → l ≡ m
   order_only [] [] a b s = refl
-  order_only [] (y ∷ m) a b s = absurd (Memᴰ.not_nil ((s y).1 (Memᴰ.head refl)))
-  order_only (x ∷ l) [] a b s = absurd (Memᴰ.not_nil ((s x).0 (Memᴰ.head refl)))
+  order_only [] (y ∷ m) a b s = absurd (Memᴰ.not-nil ((s y).1 (Memᴰ.head refl)))
+  order_only (x ∷ l) [] a b s = absurd (Memᴰ.not-nil ((s x).0 (Memᴰ.head refl)))
   order_only (x ∷ l) (y ∷ m) (more n a) (more k b) s =
       ap₂ (λ (z : A) (t : List A). z ∷ t) e (order_only l m a b (λ z. (forth z, back z)))
     where

@@ -4,7 +4,7 @@ use mathlib.Core.Path.{◌≡◌, refl, sym, ◌∙◌, subst}
 use mathlib.Core.List.Memᴰ
 use mathlib.Core.List.{List, Memᴰ}
 use Prim.Native.Nat.{ℕ}
-use lib.ListN.{length_map}
+use lib.ListN.{length-map}
 use Rattle.sets.specs.Sets.{◌∈◌, ◌⊆◌}
 use Rattle.reduction.specs.Steps.{Family}
 use Rattle.reduction.specs.Statements.{OfAttributes}
@@ -166,7 +166,7 @@ rows_wide : (b q : List ℕ) → AllWide (item_count b q) (rows_answered b q)
 unfolding rows_answered item_kinds
 rows_wide b q r m =
     let k : Asking = (query_read (read b) q).asking in
-    ((answer_listed b k (names_in_range b q)).of_kinds.each r m).wide ∙ length_map k.items (kind_of (read b))
+    ((answer_listed b k (names_in_range b q)).of_kinds.each r m).wide ∙ length-map k.items (kind_of (read b))
 
 pub demand1 : (b q : List ℕ) (serial : ℕ) (space : List ℕ) → Demand1 b q serial space
 demand1 b q serial space = record {

@@ -8,7 +8,7 @@ use mathlib.Core.List.{List, [], ◌∷◌, map, Memᴰ}
 use Prim.Native.Nat.{ℕ, zero, suc, ◌+◌, ◌<◌, ◌^◌}
 use native.Mathlib.Nat.{lt_trans}
 use native.Mathlib.Omega.{arith}
-use lib.ListN.{length, get_or, length-append, length_map}
+use lib.ListN.{length, get_or, length-append, length-map}
 use Rattle.sets.specs.Sets.{◌⊆◌, members, ATTRIBUTES}
 use Rattle.sets.proofs.Tests.{yes_no}
 use Rattle.sets.proofs.Members.{members_only}
@@ -48,7 +48,7 @@ module _ (b : List ℕ) (o : Outcome) (X : ℕ) where
   ways_by_counted : (M : ℕ) → length (ways_by b o X M) ≡ rows_product b o X M
   unfolding ways_by rows_product
   ways_by_counted M =
-      length_map (picks_of (map (distinct_rows o) (shown_tables b o M X))) (way M)
+      length-map (picks_of (map (distinct_rows o) (shown_tables b o M X))) (way M)
       ∙ picks_counted (distinct_rows o) (λ T. length (distinct_rows o T)) (λ T. refl) (shown_tables b o M X)
 
   pub ways_counted : (Ms : List ℕ) → length (ways_among b o X Ms) ≡ objects_sum b o X Ms
@@ -81,7 +81,7 @@ module _ (b : List ℕ) (X M : ℕ) where
         let (k, s, i) = of_shown_row b (read b) M m in
         let p = of_project K (table_of b (read b) k) i in
         subst (OfKinds (kinds_on K)) (sym p.shows) (record {
-          wide = length_map (members ATTRIBUTES K) _ ∙ sym (length_map (members ATTRIBUTES K) _);
+          wide = length-map (members ATTRIBUTES K) _ ∙ sym (length-map (members ATTRIBUTES K) _);
           cells = all_below (cell_of (table_of b (read b) k).set p.origin) (members ATTRIBUTES K) (λ a j.
               cell_lt b {M = M} s.below s.there p.there
               (s.contains.each (members_only ATTRIBUTES K j).1));
@@ -136,7 +136,7 @@ module _ (b : List ℕ) (X : ℕ) where
 
   of_ways_among : (Ms : List ℕ) {w : Way} → Memᴰ w (ways_among b (read b) X Ms) → WayAmong Ms w
   unfolding ways_among
-  of_ways_among [] m = absurd (Memᴰ.not_nil m)
+  of_ways_among [] m = absurd (Memᴰ.not-nil m)
   of_ways_among (M ∷ Ms) m =
       ⊎_elim
       (λ i. let p = of_ways_by b X M i in record { there = Memᴰ.head p.0; picked = p.1 })
@@ -145,7 +145,7 @@ module _ (b : List ℕ) (X : ℕ) where
 
   ways_among_have : (Ms : List ℕ) {w : Way} → WayAmong Ms w → Memᴰ w (ways_among b (read b) X Ms)
   unfolding ways_among
-  ways_among_have [] s = absurd (Memᴰ.not_nil s.there)
+  ways_among_have [] s = absurd (Memᴰ.not-nil s.there)
   ways_among_have (M ∷ Ms) {w} s =
       ⊎_elim
       (λ e.

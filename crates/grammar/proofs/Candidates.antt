@@ -9,7 +9,7 @@ use mathlib.Core.List.{List, [], ◌∷◌, ◌++◌}
 use mathlib.Core.Option.{Option, none, some}
 use Prim.Native.Nat.{ℕ, zero, suc, ◌≤◌, ◌<◌}
 use native.Mathlib.Omega.{arith}
-use borrow.Author.Tests.{eqb-true, not_true, ne_eqb}
+use borrow.Author.Tests.{eqb-true, not-true, ne_eqb}
 use lib.Dec.{leb, eqb}
 use lib.ListN.{length, get_or, take, drop}
 use lib.Seq.{take-append_seam}
@@ -27,7 +27,7 @@ use Rattle.grammar.proofs.Bytes.{counts_not, space_is, every_first, every_last, 
 
 -- behind a piece that ends in a letter or digit stands none
 apart_none : (a b : Bool) → not (a && b) ≡ true → a ≡ true → b ≡ false
-apart_none true b h e = not_true b h
+apart_none true b h e = not-true b h
 apart_none false b h e = absurd (yes_no e refl)
 
 -- ---- items

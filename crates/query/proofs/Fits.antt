@@ -105,7 +105,7 @@ unfolding items_of comparisons_of names_of
 fits_none = record {
   items = omega arith;
   comparisons = omega arith;
-  named = λ n. absurd (Memᴰ.not_nil n);
+  named = λ n. absurd (Memᴰ.not-nil n);
 }
 
 fits_one_more : {rs : List Record} {r : Record} → Fits rs → Fitting (asked_of (asks rs)) r → Fits (rs ++ r ∷ [])

@@ -7,7 +7,7 @@ use mathlib.Core.Bool.{Bool, true, false, not, ◌&&◌, ◌||◌}
 use mathlib.Core.List.{List, [], ◌∷◌, ◌++◌}
 use Prim.Native.Nat.{ℕ, ◌+◌, ◌≤◌, ◌<◌}
 use native.Mathlib.Omega.{arith}
-use borrow.Author.Tests.{eq-eqb, ne_eqb, not_true, not-false}
+use borrow.Author.Tests.{eq-eqb, ne_eqb, not-true, not-false}
 use lib.ListN.{length, get_or}
 use types.Run.{OneOf, miss}
 use denote.Enum.Declared.{tag_of}
@@ -138,7 +138,7 @@ contains_asks sets X = record { none = refl; more = λ M Ms. by (within X (attri
 pub contains_found : (sets Ms : List ℕ) (X : ℕ) {i A : ℕ} {r : Bool} → NoneSoFar (contains_asks sets X) Ms i → i < length Ms
     → A ≡ attributes_of sets (get_or Ms i 0) → r ≡ within X A → r ≡ true → false ≡ is_nil (containing sets Ms X)
 contains_found sets Ms X v h a e y =
-    sym (not_true (is_nil (containing sets Ms X))
+    sym (not-true (is_nil (containing sets Ms X))
     (sym (none_found (contains_asks sets X) v h (ap (within X) (sym a) ∙ sym e ∙ y))))
 
 pub contains_next : (sets Ms : List ℕ) (X : ℕ) {i A : ℕ} {r : Bool} → NoneSoFar (contains_asks sets X) Ms i → i < length Ms

@@ -98,7 +98,7 @@ same_name {v} {a} {w} {b} P e p =
 
 pub in_name : {v a : ℕ} (r : Record) → Memᴰ (pair v a) (name_of r) → Names v a r
 unfolding name_of
-in_name (OfBook r) m = absurd (Memᴰ.not_nil m)
+in_name (OfBook r) m = absurd (Memᴰ.not-nil m)
 in_name (OfQuery (Item w b)) m = same_name (λ x y. Names x y (OfQuery (Item w b))) (Memᴰ.eq_of_singleton m) item
 in_name (OfQuery (CompareTwo w b operator w2 b2)) m =
     ⊎_elim (λ e. same_name (λ x y. Names x y (OfQuery (CompareTwo w b operator w2 b2))) e left)
@@ -106,7 +106,7 @@ in_name (OfQuery (CompareTwo w b operator w2 b2)) m =
     (Memᴰ.cases_cons m)
 in_name (OfQuery (CompareConstant w b operator cell)) m =
     same_name (λ x y. Names x y (OfQuery (CompareConstant w b operator cell))) (Memᴰ.eq_of_singleton m) of_constant
-in_name (OfQuery End) m = absurd (Memᴰ.not_nil m)
+in_name (OfQuery End) m = absurd (Memᴰ.not-nil m)
 
 -- so do records
 pub names_in : {v a : ℕ} {r : Record} {rs : List Record} → Memᴰ r rs → Names v a r
@@ -118,7 +118,7 @@ names_in (Memᴰ.tail {x = x} m) n = Memᴰ.append_right (name_of x) (names_in m
 
 pub in_names : {v a : ℕ} (rs : List Record) → Memᴰ (pair v a) (names_of rs) → NamedIn rs v a
 unfolding names_of
-in_names [] m = absurd (Memᴰ.not_nil m)
+in_names [] m = absurd (Memᴰ.not-nil m)
 in_names {v} {a} (r ∷ rs) m = here (λ p. in_names rs p) (Memᴰ.append_cases (name_of r) m)
   where
     here : (Memᴰ (pair v a) (names_of rs) → NamedIn rs v a)
@@ -136,7 +136,7 @@ record Said {A : Type 0} (Says : Record → A → Type 0) (rs : List Record) (x 
 
 gathered_said : {A : Type 0} {Says : Record → A → Type 0} {rs : List Record} {xs : List A} {x : A} → Gathered Says rs xs
     → Memᴰ x xs → Said Says rs x
-gathered_said ended m = absurd (Memᴰ.not_nil m)
+gathered_said ended m = absurd (Memᴰ.not-nil m)
 gathered_said {Says = Says} (taken {r = r} s g) (Memᴰ.head e) =
     record { by = r; there = Memᴰ.head refl; says = subst (Says r) (sym e) s }
 gathered_said (taken s g) (Memᴰ.tail m) =

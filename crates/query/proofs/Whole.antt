@@ -9,7 +9,7 @@ use mathlib.Core.List.Memᴰ
 use mathlib.Core.List.{List, [], ◌∷◌, ◌++◌, Memᴰ}
 use Prim.Native.Nat.{ℕ, zero, suc, ◌<◌}
 use native.Mathlib.Omega.{arith}
-use borrow.Author.Tests.{eqb-true, eqb-false, not_true}
+use borrow.Author.Tests.{eqb-true, eqb-false, not-true}
 use lib.Dec.{eqb}
 use lib.ListN.{length}
 use Rattle.numbers.specs.Numbers.{is_nil}
@@ -32,7 +32,7 @@ use Rattle.query.proofs.Fits.{accepted_records_fit}
 module _ (sets : List ℕ) (X : ℕ) where
   pub containing_only : (Ms : List ℕ) {M : ℕ} → Memᴰ M (containing sets Ms X) → Memᴰ M Ms × Contains sets X M
   unfolding containing
-  containing_only [] m = absurd (Memᴰ.not_nil m)
+  containing_only [] m = absurd (Memᴰ.not-nil m)
   containing_only (N ∷ Ms) {M} m = by (within X (attributes_of sets N)) refl (λ p. containing_only Ms p) m
     where
       by : (t : Bool) → within X (attributes_of sets N) ≡ t
@@ -75,7 +75,7 @@ module _ (sets : List ℕ) (X : ℕ) where
 
 nil_none : (l : List ℕ) {x : ℕ} → is_nil l ≡ true → Memᴰ x l → ⊥
 unfolding is_nil
-nil_none [] e m = Memᴰ.not_nil m
+nil_none [] e m = Memᴰ.not-nil m
 nil_none (y ∷ l) e m = yes_no e refl
 
 none_nil : (l : List ℕ) → ((x : ℕ) → Memᴰ x l → ⊥) → is_nil l ≡ true
@@ -89,7 +89,7 @@ module _ (sets Ms : List ℕ) (q : Asking) (v : ℕ) where
   yes_unconnected e =
       let X = attributes_named q v in
       let p = yes_and (not (is_empty X)) (is_nil (containing sets Ms X)) e in
-      let i = no_is_empty X (not_true (is_empty X) p.0) in
+      let i = no_is_empty X (not-true (is_empty X) p.0) in
       record {
         named = (i.0, named_in q v i.1);
         nowhere = λ M m c.
@@ -129,7 +129,7 @@ there_attributes q (Memᴰ.tail (Memᴰ.head e)) = (1, e)
 there_attributes q (Memᴰ.tail (Memᴰ.tail (Memᴰ.head e))) = (2, e)
 there_attributes q (Memᴰ.tail (Memᴰ.tail (Memᴰ.tail (Memᴰ.head e)))) = (3, e)
 there_attributes q (Memᴰ.tail (Memᴰ.tail (Memᴰ.tail (Memᴰ.tail m)))) =
-    absurd (Memᴰ.not_nil m)
+    absurd (Memᴰ.not-nil m)
 
 -- "variables 0 to 3"
 abbrev FourVariables : Asking → Type 0

@@ -8,7 +8,7 @@ use mathlib.Core.Logic.{◌⊎◌, inl, inr, ⊎_elim}
 use mathlib.Core.List.{List, [], ◌∷◌}
 use Prim.Native.Nat.{ℕ, ◌≤◌, ◌<◌}
 use native.Mathlib.Omega.{arith}
-use borrow.Author.Tests.{ltb-true, ltb-false, leb-true, leb-false, not_true, not-false}
+use borrow.Author.Tests.{ltb-true, ltb-false, leb-true, leb-false, not-true, not-false}
 use lib.Dec.{ltb, leb}
 use Rattle.sets.specs.Sets.{◌∈◌, ◌∉◌, ◌⊆◌, has, within, is_empty}
 use Rattle.sets.proofs.Tests.{yes_no, yes_or, no_or}
@@ -101,7 +101,7 @@ pub same_true : (t : Bool) → Same t (t ≡ true)
 same_true t = record { yes = λ e. e; no = λ e y. yes_no y e }
 
 pub same_not : (t : Bool) → Same (not t) (t ≡ false)
-same_not t = record { yes = not_true t; no = λ e n. yes_no (not-false t e) n }
+same_not t = record { yes = not-true t; no = λ e n. yes_no (not-false t e) n }
 
 pub same_or : {a b : Bool} {P Q : Type 0} → Same a P → Same b Q → Same (a || b) (P ⊎ Q)
 same_or {a} {b} s t = record {
@@ -135,12 +135,12 @@ same_has s k = record { yes = yes_has s k; no = λ e i. in_out i (no_has s k e) 
 
 pub same_absent : (s k : ℕ) → Same (not (has s k)) (k ∉ s)
 same_absent s k = record {
-  yes = λ e. no_has s k (not_true (has s k) e);
+  yes = λ e. no_has s k (not-true (has s k) e);
   no = λ e o. in_out (yes_has s k (not-false (has s k) e)) o;
 }
 
 pub same_not_within : (s t : ℕ) → Same (not (within s t)) (s ⊆ t → ⊥)
 same_not_within s t = record {
-  yes = λ e. no_within (not_true (within s t) e);
+  yes = λ e. no_within (not-true (within s t) e);
   no = λ e n. n (yes_within s t (not-false (within s t) e));
 }

@@ -11,7 +11,7 @@ use native.Mathlib.Nat.{add-zero}
 use native.Mathlib.Numerals.{add-one}
 use native.Mathlib.Omega.{arith}
 use native.Mathlib.Decide.{dec_lt}
-use borrow.Author.Tests.{leb-true, leb-false, le-leb, lt-leb, not_true, not-false}
+use borrow.Author.Tests.{leb-true, leb-false, le-leb, lt-leb, not-true, not-false}
 use lib.Dec.{leb}
 use lib.ListN.{length, get_or, take, drop, length-append, length-drop, drop_of_length-le, take-append-drop}
 use lib.Seq.{drop-cons, drop-drop, drop-append_seam, drop-append-add, get_or-drop}
@@ -132,7 +132,7 @@ finds_nothing s at h = sym (read_at_nothing s at h)
 
 pub finds_unknown : (s : List ℕ) (at : ℕ) (b : Bool) → at < length s → b ≡ is_kind (get_or s at 0) → not b ≡ true
     → Unknown ≡ read_at s at
-finds_unknown s at b h e f = sym (read_at_unknown s at (record { within = h; kind = sym e ∙ not_true b f }))
+finds_unknown s at b h e f = sym (read_at_unknown s at (record { within = h; kind = sym e ∙ not-true b f }))
 
 pub finds_kind : (k : ℕ) (b : Bool) → b ≡ is_kind k → not b ≡ false → is_kind k ≡ true
 finds_kind k b e f = sym e ∙ not-false b f

@@ -179,9 +179,9 @@ two_agree T U tu ut = record { shared = shared }
     shared V₁ V₂ (Memᴰ.tail (Memᴰ.head p)) (Memᴰ.head q) = subst₂ Shared (sym p) (sym q) ut
     shared V₁ V₂ (Memᴰ.tail (Memᴰ.head p)) (Memᴰ.tail (Memᴰ.head q)) =
         subst₂ Shared (sym p) (sym q) (self U)
-    shared V₁ V₂ (Memᴰ.tail (Memᴰ.tail m)) n = absurd (Memᴰ.not_nil m)
-    shared V₁ V₂ (Memᴰ.head p) (Memᴰ.tail (Memᴰ.tail n)) = absurd (Memᴰ.not_nil n)
-    shared V₁ V₂ (Memᴰ.tail (Memᴰ.head p)) (Memᴰ.tail (Memᴰ.tail n)) = absurd (Memᴰ.not_nil n)
+    shared V₁ V₂ (Memᴰ.tail (Memᴰ.tail m)) n = absurd (Memᴰ.not-nil m)
+    shared V₁ V₂ (Memᴰ.head p) (Memᴰ.tail (Memᴰ.tail n)) = absurd (Memᴰ.not-nil n)
+    shared V₁ V₂ (Memᴰ.tail (Memᴰ.head p)) (Memᴰ.tail (Memᴰ.tail n)) = absurd (Memᴰ.not-nil n)
 
 -- an attribute of two of two sets is one that they share
 shared_of_two : {S U a : ℕ} → OfTwo (S ∷ U ∷ []) a → a ∈ S ∩ U
@@ -202,7 +202,7 @@ two_bounded {S} {U} p q = record { bounded = low }
     low : (s : ℕ) → Memᴰ s (S ∷ U ∷ []) → s < 2 ^ ATTRIBUTES
     low s (Memᴰ.head e) = omega (arith, e, p)
     low s (Memᴰ.tail (Memᴰ.head e)) = omega (arith, e, q)
-    low s (Memᴰ.tail (Memᴰ.tail m)) = absurd (Memᴰ.not_nil m)
+    low s (Memᴰ.tail (Memᴰ.tail m)) = absurd (Memᴰ.not-nil m)
 
 -- on the station the leads and the trips of `paired` show the same rows
 pub paired_agree : AgreePairwise paired
@@ -225,7 +225,7 @@ unfolding gap kinds missing part join_rows going_on each_passing matches_all row
     cell_of shown_rows kept kept_of keeps goes goes_for left settle staying stays removable some_holds around union bit has
     within ◌∩◌ ◌∪◌ single is_empty rank members matches
 gap_adds_a_row same =
-    Memᴰ.not_nil ((join_computed kinds gap 2 bounded inside).finds_row (501 ∷ []) (same (501 ∷ [])
+    Memᴰ.not-nil ((join_computed kinds gap 2 bounded inside).finds_row (501 ∷ []) (same (501 ∷ [])
     ((part_computed kinds gap 2 bounded inside).row_found (501 ∷ []) (Memᴰ.head refl))))
   where
     inside : 2 ⊆ union (family gap)
@@ -256,14 +256,14 @@ own_gap_none_missing = record {
 
     only : (S : ℕ) {x : Row} → Noted S x → (row : Row) → Memᴰ row (x ∷ []) → Noted S row
     only S y row (Memᴰ.head e) = subst (Noted S) (sym e) y
-    only S y row (Memᴰ.tail m) = absurd (Memᴰ.not_nil m)
+    only S y row (Memᴰ.tail m) = absurd (Memᴰ.not-nil m)
 
     station : (T : Table) → Memᴰ T own_gap → (row : Row) → Memᴰ row T.rows → Noted T.set row
     station T (Memᴰ.head e) =
         subst (λ (U : Table). (row : Row) → Memᴰ row U.rows → Noted U.set row) (sym e) (only 3 refl)
     station T (Memᴰ.tail (Memᴰ.head e)) =
         subst (λ (U : Table). (row : Row) → Memᴰ row U.rows → Noted U.set row) (sym e) (only 9 refl)
-    station T (Memᴰ.tail (Memᴰ.tail m)) = absurd (Memᴰ.not_nil m)
+    station T (Memᴰ.tail (Memᴰ.tail m)) = absurd (Memᴰ.not-nil m)
 
 pub own_gap_equal : (row : Row) → InFullJoin kinds own_gap 10 row ↔ InPart kinds own_gap 10 row
 unfolding own_gap union bit ◌∪◌ within
@@ -283,7 +283,7 @@ survey_disagrees agree =
     no-trip (Memᴰ.tail (Memᴰ.head e)) = let z : ◌≡◌ {A = ℕ} 12 11 = head-eq_of_cons-eq e in omega arith
     no-trip (Memᴰ.tail (Memᴰ.tail (Memᴰ.head e))) =
         let z : ◌≡◌ {A = ℕ} 12 13 = head-eq_of_cons-eq e in omega arith
-    no-trip (Memᴰ.tail (Memᴰ.tail (Memᴰ.tail m))) = Memᴰ.not_nil m
+    no-trip (Memᴰ.tail (Memᴰ.tail (Memᴰ.tail m))) = Memᴰ.not-nil m
 
 -- two tables with no row agree: those of leads and of trips, which share STATION, and two that share nothing
 pub empty_tables_agree : AgreePairwise (no_rows 3 ∷ no_rows 5 ∷ []) × AgreePairwise (no_rows 1 ∷ no_rows 4 ∷ [])
@@ -300,12 +300,12 @@ empty_tables_agree = (agree 3 5, agree 1 4)
 pub leads_and_no_trips_disagree : AgreePairwise (leads ∷ no_rows 5 ∷ []) → ⊥
 unfolding project projected cell_of rank members has bit ◌∩◌
 leads_and_no_trips_disagree agree =
-    Memᴰ.not_nil ((agree.shared leads (no_rows 5) (Memᴰ.head refl) (Memᴰ.tail (Memᴰ.head refl))
+    Memᴰ.not-nil ((agree.shared leads (no_rows 5) (Memᴰ.head refl) (Memᴰ.tail (Memᴰ.head refl))
     ).first_in_second (10 ∷ []) (Memᴰ.head refl))
 
 -- and stations and no trips, which share nothing
 pub apart_disagrees : AgreePairwise apart → ⊥
 unfolding apart project projected cell_of rank members has bit ◌∩◌
 apart_disagrees agree =
-    Memᴰ.not_nil ((agree.shared _ _ (Memᴰ.head refl) (Memᴰ.tail (Memᴰ.head refl))
+    Memᴰ.not-nil ((agree.shared _ _ (Memᴰ.head refl) (Memᴰ.tail (Memᴰ.head refl))
     ).first_in_second [] (Memᴰ.head refl))

@@ -7,7 +7,7 @@ use mathlib.Core.List.{List, Memᴰ}
 use Prim.Native.Nat.{ℕ, ◌<◌}
 use native.Mathlib.Nat.{lt_trans}
 use native.Mathlib.Omega.{arith}
-use lib.ListN.{length, length_map}
+use lib.ListN.{length, length-map}
 use Rattle.sets.specs.Sets.{◌∈◌, ◌∩◌}
 use Rattle.sets.proofs.Numbers.{lt_or_le}
 use Rattle.sets.proofs.Sets.{∩_left}
@@ -50,7 +50,7 @@ of_two_moved {F} {G} {a} once some w =
 
 of_two_cut : (A : ℕ) (F : Family) {a : ℕ} → OfTwo (cut_to A F) a → OfTwo F a
 of_two_cut A F {a} w =
-    let k : w.second < length F = subst (λ (n : ℕ). w.second < n) (length_map F (λ s. s ∩ A)) w.there in
+    let k : w.second < length F = subst (λ (n : ℕ). w.second < n) (length-map F (λ s. s ∩ A)) w.there in
     record {
       first = w.first;
       second = w.second;
@@ -79,4 +79,4 @@ pub set_of_table : (Ts : List Table) {i : ℕ} → i < length Ts → at (family 
 set_of_table Ts {i} h = get_d_map_at (λ (T : Table). T.set) _ 0 Ts i h
 
 pub family_long : (Ts : List Table) → length (family Ts) ≡ length Ts
-family_long Ts = length_map Ts (λ (T : Table). T.set)
+family_long Ts = length-map Ts (λ (T : Table). T.set)

@@ -33,7 +33,7 @@ pub record ShownAt (Ts : List Table) (K : ℕ) (row : Row) : Type 0 where
 
 pub shown_at : (Ts : List Table) (K : ℕ) {row : Row} → Memᴰ row (shown_rows Ts K) → ShownAt Ts K row
 unfolding shown_rows
-shown_at [] K m = absurd (Memᴰ.not_nil m)
+shown_at [] K m = absurd (Memᴰ.not-nil m)
 shown_at (T ∷ Ts) K {row} m = by (within K T.set) refl m (λ n. later (shown_at Ts K n))
   where
     later : ShownAt Ts K row → ShownAt (T ∷ Ts) K row
@@ -61,7 +61,7 @@ shown_at (T ∷ Ts) K {row} m = by (within K T.set) refl m (λ n. later (shown_a
 pub at_shown : (Ts : List Table) (K : ℕ) {T : Table} {row : Row} → Memᴰ T Ts → K ⊆ T.set
     → Memᴰ row (project K T).rows → Memᴰ row (shown_rows Ts K)
 unfolding shown_rows
-at_shown [] K t s m = absurd (Memᴰ.not_nil t)
+at_shown [] K t s m = absurd (Memᴰ.not-nil t)
 at_shown (U ∷ Ts) K {T} {row} (Memᴰ.head e) s m =
     subst
     (λ (b : Bool). Memᴰ row (elim b [ true ↦ (project K U).rows ++ shown_rows Ts K | false ↦ shown_rows Ts K ]))
@@ -96,7 +96,7 @@ module _ {A : ℕ} {ρ : ℕ → ℕ} (Ts : List Table) where
 
   choose : (Ks : Family) → AllFit A ρ (unions Ts Ks) → Fitted A ρ Ts Ks
   unfolding shown
-  choose [] f = record { choice = []; stands = none; fits = λ U m. absurd (Memᴰ.not_nil m) }
+  choose [] f = record { choice = []; stands = none; fits = λ U m. absurd (Memᴰ.not-nil m) }
   choose (K ∷ Ks) f = with_first (shown_at Ts K first.there) (choose Ks (λ U m. f U (Memᴰ.tail m)))
     where
       first : FitsOn A ρ (union_table Ts K)

@@ -8,7 +8,7 @@ use mathlib.Core.List.{List, [], ◌∷◌, ◌++◌, map}
 use Prim.Native.Nat.{ℕ, zero, suc, ◌+◌, ◌*◌, ◌≤◌, ◌<◌, ◌^◌}
 use native.Mathlib.Nat.{not-suc-le-zero, le_of_suc-le-suc, mul-le-mul_left}
 use native.Mathlib.Omega.{arith}
-use lib.ListN.{length, get_or, length_map}
+use lib.ListN.{length, get_or, length-map}
 use Rattle.values.specs.Values.{in_range}
 use Rattle.records.proofs.Reader.{whole_read_at, found_after}
 use Rattle.relation.specs.Tables.{Row}
@@ -59,7 +59,7 @@ module _ (b q : List ℕ) (serial : ℕ) (z : number_of b q serial ≡ 0) where
 
   kinds_wide : length (kinds_of b q) ≡ item_count b q
   unfolding item_kinds
-  kinds_wide = length_map (asked_in b q).items (kind_of (read b))
+  kinds_wide = length-map (asked_in b q).items (kind_of (read b))
 
   some_items_fact : 1 ≤ item_count b q
   some_items_fact = not_none (asked_in b q).items asks.some

@@ -78,7 +78,7 @@ pass_⊆ (d ∷ D) c A h =
 
 pass_fixed : (D : List Dependency) {A : ℕ} → pass D A ≡ A → Closed D A
 unfolding pass
-pass_fixed [] e = record { follows = λ d m. absurd (Memᴰ.not_nil m) }
+pass_fixed [] e = record { follows = λ d m. absurd (Memᴰ.not-nil m) }
 pass_fixed (d ∷ D) {A} e =
     let same : after d A ≡ A = ext (subst (λ (x : ℕ). after d A ⊆ x) e (pass-⊇ D (after d A))) (after-⊇ d A) in
     let rest : Closed D A = pass_fixed D (ap (pass D) (sym same) ∙ e) in

@@ -38,7 +38,7 @@ pub record ImageOf (f : ℕ → ℕ) (l : List ℕ) (y : ℕ) : Type 0 where
   pub gives : y ≡ f of
 
 pub of_map : (f : ℕ → ℕ) (l : List ℕ) {y : ℕ} → Memᴰ y (map f l) → ImageOf f l y
-of_map f [] m = absurd (Memᴰ.not_nil m)
+of_map f [] m = absurd (Memᴰ.not-nil m)
 of_map f (x ∷ l) (Memᴰ.head e) = record { of = x; there = Memᴰ.head refl; gives = e }
 of_map f (x ∷ l) (Memᴰ.tail m) =
     let i = of_map f l m in

@@ -112,7 +112,7 @@ none_twice_head {s} {l} n m =
     omega arith
 
 pub none_twice_snoc : (l : List ℕ) {x : ℕ} → NoneTwice l → (Memᴰ x l → ⊥) → NoneTwice (l ++ x ∷ [])
-none_twice_snoc [] n new = none_twice_cons (λ m. absurd (Memᴰ.not_nil m)) none_twice_nil
+none_twice_snoc [] n new = none_twice_cons (λ m. absurd (Memᴰ.not-nil m)) none_twice_nil
 none_twice_snoc (s ∷ l) {x} n new =
     none_twice_cons (λ m. apart (Memᴰ.append_cases l m))
     (none_twice_snoc l (none_twice_tail n) (λ m. new (Memᴰ.tail m)))

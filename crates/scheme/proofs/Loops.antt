@@ -10,7 +10,7 @@ use Prim.Native.Nat.{ℕ, suc, ◌+◌, ◌-◌, ◌≤◌, ◌<◌}
 use native.Mathlib.Nat.{sub-zero}
 use native.Mathlib.Numerals.{add-one, add-one-le}
 use native.Mathlib.Omega.{arith}
-use lib.ListN.{length, get_or, drop, take, set, length_map}
+use lib.ListN.{length, get_or, drop, take, set, length-map}
 use Rattle.sets.specs.Sets.{has, within, ◌∩◌, ◌∪◌, insert, kept, members, OBJECTS}
 use Rattle.sets.proofs.Tests.{and_yes, or_left, or_right, or_no}
 use Rattle.sets.proofs.Sets.{∪_assoc, ∪_zero_left, ∪_zero_right}
@@ -84,7 +84,7 @@ members_more f s k b t =
     map-append (a ∷ x) y = ap (λ (l : List ℕ). f a ∷ l) (map-append x y)
 
 pub length_given : (f : ℕ → ℕ) (s k : ℕ) → length (map f (members k s)) ≤ k
-length_given f s k = omega (arith, length_map (members k s) f, length_members k s, rank_le s k)
+length_given f s k = omega (arith, length-map (members k s) f, length_members k s, rank_le s k)
 
 -- of a set of objects, in an array of n places
 pub record MembersSoFar (n : ℕ) (f : ℕ → ℕ) (s k count : ℕ) (out : List ℕ) : Type 0 where

@@ -10,7 +10,7 @@ use Prim.Native.Nat.{ℕ, zero, suc, ◌≤◌, ◌<◌}
 use native.Mathlib.Nat.{le_refl, not-suc-le-zero, le_of_suc-le-suc, le_of_lt, eq-or-lt_of_le, lt_of_le_of_lt}
 use native.Mathlib.Nat.{lt_of_lt_of_le}
 use native.Mathlib.Omega.{arith}
-use lib.ListN.{length, get_or, length_map}
+use lib.ListN.{length, get_or, length-map}
 use Rattle.sets.specs.Sets.{◌∈◌, ◌⊆◌, rank, members, OBJECTS}
 use Rattle.sets.proofs.Bits.{member_lt}
 use Rattle.sets.proofs.Sets.{⊆_refl}
@@ -45,7 +45,7 @@ module _ (D : List Dependency) (sets : List ℕ) (objects : ℕ) where
 
   length_grown : length grown_sets ≡ length starts
   unfolding starts
-  length_grown = length_map (members OBJECTS objects) (grown D sets objects)
+  length_grown = length-map (members OBJECTS objects) (grown D sets objects)
 
   pub length_computed : length (computed D sets objects) ≤ OBJECTS
   unfolding computed
@@ -53,7 +53,7 @@ module _ (D : List Dependency) (sets : List ℕ) (objects : ℕ) where
       omega (
         arith,
         length_kept grown_sets (length grown_sets),
-        length_map (members OBJECTS objects) (grown D sets objects),
+        length-map (members OBJECTS objects) (grown D sets objects),
         length_members OBJECTS objects,
         rank_le objects OBJECTS,
       )
@@ -153,7 +153,7 @@ module _ (D : List Dependency) (sets : List ℕ) (objects : ℕ) where
     counted-in : (only : Bool) {M : ℕ} → Memᴰ M (counted only (computed D sets objects))
         → Memᴰ M (computed D sets objects)
     unfolding counted
-    counted-in true m = absurd (Memᴰ.not_nil m)
+    counted-in true m = absurd (Memᴰ.not-nil m)
     counted-in false m = m
 
     counted-once : (only : Bool) → NoneTwice (counted only (computed D sets objects))

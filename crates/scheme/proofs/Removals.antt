@@ -11,7 +11,7 @@ use native.Mathlib.Nat.{not-suc-le-zero, le_of_suc-le-suc, zero-lt-suc, lt_trans
 use native.Mathlib.Omega.{arith}
 use lib.Dec.{eqb, ltb}
 use lib.ListN.{length, length-append}
-use borrow.Author.Tests.{eq-eqb, eqb-true, not_true, not-false, lt-ltb, ltb-true}
+use borrow.Author.Tests.{eq-eqb, eqb-true, not-true, not-false, lt-ltb, ltb-true}
 use Rattle.sets.proofs.Tests.{yes_no, and_yes, yes_and}
 use Rattle.reduction.specs.Steps.{at, NoneTwice}
 use Rattle.reduction.specs.Kept.{acyclic}
@@ -75,7 +75,7 @@ module _ (named : List ℕ) where
 
   removing_not_named : (l : List ℕ) {s : ℕ} → Memᴰ s (removing l named) → Memᴰ s named → ⊥
   unfolding removing
-  removing_not_named [] m = absurd (Memᴰ.not_nil m)
+  removing_not_named [] m = absurd (Memᴰ.not-nil m)
   removing_not_named (t ∷ l) {s} m = by (is_one t named) refl (λ m'. removing_not_named l m') m
     where
       by : (b : Bool) → is_one t named ≡ b → (Memᴰ s (removing l named) → Memᴰ s named → ⊥)
@@ -213,11 +213,11 @@ unfolding adding
 addition l [] = record {
   ends = [];
   at_the_end = sym (append-nil l);
-  new = λ s m. absurd (Memᴰ.not_nil m);
+  new = λ s m. absurd (Memᴰ.not-nil m);
   ordered = ended;
   by_first_place = record { before = λ i j a b h l. absurd (not-suc-le-zero l) };
   stays = λ s m. m;
-  there = λ s m. absurd (Memᴰ.not_nil m);
+  there = λ s m. absurd (Memᴰ.not-nil m);
   from_either = λ s m. inl m;
   none_twice = λ n. n;
 }
@@ -257,4 +257,4 @@ cyclic_fault sets l = record {
   where
     back : Passes (λ M. not (acyclic (family_of sets M))) l
         → (M : ℕ) × Memᴰ M l × (acyclic (family_of sets M) ≡ false)
-    back r = (r.one, r.there, not_true (acyclic (family_of sets r.one)) r.passing)
+    back r = (r.one, r.there, not-true (acyclic (family_of sets r.one)) r.passing)

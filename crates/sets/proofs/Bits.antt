@@ -119,11 +119,11 @@ module _ (op f : ℕ → ℕ → ℕ) (shr : (a b k : ℕ) → op a b / 2 ^ k �
       ap (λ (x : ℕ). x % 2) (shr s t k ∙ step a b)
       ∙ digits_mod (op (a / 2) (b / 2)) (small (a % 2) (b % 2) (mod-lt a (zero-lt-suc 1)) (mod-lt b (zero-lt-suc 1)))
 
-pub bit_and : (s t k : ℕ) → bit (bit_and s t) k ≡ min (bit s k) (bit t k)
-bit_and = bit_op bit_and min and_shr and_step (λ x y hx hy. omega arith)
+pub bit_of_and : (s t k : ℕ) → bit (bit_and s t) k ≡ min (bit s k) (bit t k)
+bit_of_and = bit_op bit_and min and_shr and_step (λ x y hx hy. omega arith)
 
-pub bit_or : (s t k : ℕ) → bit (bit_or s t) k ≡ max (bit s k) (bit t k)
-bit_or = bit_op bit_or max or_shr or_step (λ x y hx hy. omega arith)
+pub bit_of_or : (s t k : ℕ) → bit (bit_or s t) k ≡ max (bit s k) (bit t k)
+bit_of_or = bit_op bit_or max or_shr or_step (λ x y hx hy. omega arith)
 
 differ_small : (x y : ℕ) → x < 2 → y < 2 → differ x y < 2
 differ_small zero y hx hy = hy
@@ -132,5 +132,5 @@ differ_small (suc zero) (suc zero) hx hy = omega arith
 differ_small (suc zero) (suc (suc y)) hx hy = absurd (omega arith)
 differ_small (suc (suc x)) y hx hy = absurd (omega arith)
 
-pub bit_xor : (s t k : ℕ) → bit (bit_xor s t) k ≡ differ (bit s k) (bit t k)
-bit_xor = bit_op bit_xor differ xor_shr xor_step differ_small
+pub bit_of_xor : (s t k : ℕ) → bit (bit_xor s t) k ≡ differ (bit s k) (bit t k)
+bit_of_xor = bit_op bit_xor differ xor_shr xor_step differ_small

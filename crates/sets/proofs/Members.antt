@@ -41,7 +41,7 @@ members_has {s} {k} (suc w) h i =
 -- and nothing else is
 pub members_only : (w s : ℕ) {k : ℕ} → Memᴰ k (members w s) → (k < w) × (k ∈ s)
 unfolding members
-members_only zero s m = absurd (Memᴰ.not_nil m)
+members_only zero s m = absurd (Memᴰ.not-nil m)
 members_only (suc w) s {k} m =
     ⊎_elim (λ m'. older (members_only w s m')) (λ m'. newest (has s w) refl m') (Memᴰ.append_cases (members w s) m)
   where
@@ -52,7 +52,7 @@ members_only (suc w) s {k} m =
     newest true e m' =
         let here : k ≡ w = Memᴰ.eq_of_singleton m' in
         (omega arith, subst (λ (x : ℕ). x ∈ s) (sym here) (yes_has s w e))
-    newest false e m' = absurd (Memᴰ.not_nil m')
+    newest false e m' = absurd (Memᴰ.not-nil m')
 
 -- ---- its length
 

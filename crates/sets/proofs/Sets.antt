@@ -17,7 +17,7 @@ use borrow.Author.Tests.{eq-eqb, ne_eqb, eqb-true, eqb-false}
 use Rattle.sets.specs.Sets.{bit, ◌∈◌, ◌∉◌, has, ◌⊆◌, within, ◌∩◌, ◌∪◌, ◌∖◌, single, insert, remove, is_empty}
 use Rattle.sets.proofs.Numbers.{lt_or_le, eq_or_ne}
 use Rattle.sets.proofs.Bits.{bit_lt_two, member_or_not, in_out, not_in, not_out, no_bits, ext_bits, out_above}
-use Rattle.sets.proofs.Bits.{bit_zero, bit_suc, bit_and, bit_or, bit_xor}
+use Rattle.sets.proofs.Bits.{bit_zero, bit_suc, bit_of_and, bit_of_or, bit_of_xor}
 
 -- ---- the test of membership
 
@@ -41,7 +41,7 @@ no_has s k e = not_in (λ i. eqb-false (bit s k) 1 e i.is_one)
 
 bit_∩ : (s t k : ℕ) → bit (s ∩ t) k ≡ min (bit s k) (bit t k)
 unfolding ◌∩◌
-bit_∩ = bit_and
+bit_∩ = bit_of_and
 
 pub ∩_in : {s t k : ℕ} → k ∈ s → k ∈ t → k ∈ s ∩ t
 ∩_in {s} {t} {k} i j = omega (arith, bit_∩ s t k)
@@ -56,7 +56,7 @@ pub ∩_right : (s t : ℕ) {k : ℕ} → k ∈ s ∩ t → k ∈ t
 
 bit_∪ : (s t k : ℕ) → bit (s ∪ t) k ≡ max (bit s k) (bit t k)
 unfolding ◌∪◌
-bit_∪ = bit_or
+bit_∪ = bit_of_or
 
 pub ∪_left : {s : ℕ} (t : ℕ) {k : ℕ} → k ∈ s → k ∈ s ∪ t
 ∪_left {s} t {k} i = omega (arith, bit_∪ s t k, bit_lt_two t k)
@@ -99,7 +99,7 @@ differ_min (suc (suc x)) y hx hy = absurd (omega arith)
 bit_∖ : (s t k : ℕ) → bit (s ∖ t) k ≡ bit s k - bit t k
 unfolding ◌∖◌
 bit_∖ s t k =
-    bit_xor s (bit_and s t) k ∙ ap (differ (bit s k)) (bit_and s t k)
+    bit_of_xor s (bit_and s t) k ∙ ap (differ (bit s k)) (bit_of_and s t k)
     ∙ differ_min (bit s k) (bit t k) (bit_lt_two s k) (bit_lt_two t k)
 
 pub ∖_in : {s t k : ℕ} → k ∈ s → k ∉ t → k ∈ s ∖ t

@@ -7,7 +7,7 @@ use mathlib.Core.List.{List, [], ◌∷◌, ◌++◌}
 use mathlib.Core.Option.{Option, none, some}
 use Prim.Native.Nat.{ℕ, zero, suc, ◌+◌, ◌-◌, ◌*◌, ◌≤◌, ◌<◌, max}
 use native.Mathlib.Omega.{arith}
-use borrow.Author.Tests.{not_true, not-false}
+use borrow.Author.Tests.{not-true, not-false}
 use lib.ListN.{length, length-append}
 use Rattle.sets.proofs.Tests.{yes_no}
 use Rattle.grammar.specs.Pieces.{Word, word}
@@ -148,7 +148,7 @@ module _ (s : List ℕ) (w : Word) (join : Condition → Condition → Condition
         → Gave (λ n. whole n at) (4 * (length s - at) + suc off) s at to before after r
     unfolding Continues
     round-fails after r g n =
-        let none' = shows_none s at to before after r g.given g.shown (not_true r.ok n) in
+        let none' = shows_none s at to before after r g.given g.shown (not-true r.ok n) in
         record {
           given = failed;
           steady = λ k l. subst (Continues (whole k at)) none' (g.goes k l);

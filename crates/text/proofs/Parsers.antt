@@ -9,7 +9,7 @@ use Prim.Native.Nat.{ℕ, zero, suc, ◌+◌, ◌-◌, ◌*◌, ◌≤◌, ◌<�
 use native.Mathlib.Nat.{zero-max}
 use native.Mathlib.Numerals.{add-one}
 use native.Mathlib.Omega.{arith}
-use borrow.Author.Tests.{not_true, not-false}
+use borrow.Author.Tests.{not-true, not-false}
 use lib.ListN.{length, length-append}
 use Rattle.sets.proofs.Tests.{yes_no}
 use Rattle.grammar.specs.Pieces.{word, And, Or, Not, Opening, Closing}
@@ -50,7 +50,7 @@ module _ (s : List ℕ) (c : Parse) where
   closed_suc (suc n) h = refl
 
   pub closed_fails : (r : Parse) → r ≡ nothing → not c.ok ≡ true → r ≡ closing s c
-  closed_fails r e n = e ∙ sym (closing_none (not_true c.ok n))
+  closed_fails r e n = e ∙ sym (closing_none (not-true c.ok n))
 
   module _ (h : c.ok ≡ true → (c.next ≤ length s) × (c.depth < length s)) (ok : not c.ok ≡ false) where
     pub closed-inside : c.next ≤ length s
@@ -76,7 +76,7 @@ module _ (s : List ℕ) (at to : ℕ) (before : List ℕ) (x : Compared) (h : Co
       go : (y : Parsed Deep) → comparison_at s at ≡ y → ComparedShows s at x y
           → Gave (λ n. comparison_at s at) 0 s at to before before r
       go failed f k = record { given = failed; steady = λ n l. f; shown = unfold Shows in (e, refl) }
-      go (parsed c next) f k = unfold ComparedShows in absurd (yes_no k.0 (not_true x.ok n))
+      go (parsed c next) f k = unfold ComparedShows in absurd (yes_no k.0 (not-true x.ok n))
 
   module _ (ok : not x.ok ≡ false) (room : to + 2 * (length s - at) ≤ length before) where
     words_long : length (compared_words x) ≡ 6

@@ -8,7 +8,7 @@ use Prim.Native.Nat.{ℕ, zero, suc, ◌+◌, ◌-◌, ◌*◌, ◌^◌, ◌≤�
 use native.Mathlib.Nat.{pow-le-pow_right, pow-suc}
 use native.Mathlib.Numerals.{add-one}
 use native.Mathlib.Omega.{arith}
-use borrow.Author.Tests.{leb-true, lt-leb, le-leb, eqb-true, eq-eqb, ne_eqb, not_true, not-false}
+use borrow.Author.Tests.{leb-true, lt-leb, le-leb, eqb-true, eq-eqb, ne_eqb, not-true, not-false}
 use lib.Dec.{leb, eqb}
 use lib.ListN.{length, get_or, take, drop, length-drop, drop_of_length-le, get_or-eq_default}
 use lib.Seq.{drop-cons, take_all}
@@ -76,7 +76,7 @@ module _ (test : ℕ → Bool) (s : List ℕ) where
       → i ≡ at + run test (drop at s)
   running_stops at i t r h e n =
       let none_more : run test (drop i s) ≡ 0 =
-      ap (run test) (drop_inside s i h) ∙ run_no test (get_or s i 0) (drop (i + 1) s) (sym e ∙ not_true t n) in
+      ap (run test) (drop_inside s i h) ∙ run_no test (get_or s i 0) (drop (i + 1) s) (sym e ∙ not-true t n) in
       omega (arith, r.same)
 
   pub running_ends : (at i : ℕ) → Running test s at i → length s ≤ i → i ≡ at + run test (drop at s)

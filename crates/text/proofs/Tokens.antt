@@ -8,7 +8,7 @@ use mathlib.Core.Option.{Option, none, some}
 use Prim.Native.Nat.{ℕ, zero, suc, ◌+◌, ◌-◌, ◌*◌, ◌≤◌, ◌<◌}
 use native.Mathlib.Nat.{add_assoc}
 use native.Mathlib.Omega.{arith}
-use borrow.Author.Tests.{leb-true, lt-leb, le-leb, eqb-true, eq-eqb, ne_eqb, not_true, not-false}
+use borrow.Author.Tests.{leb-true, lt-leb, le-leb, eqb-true, eq-eqb, ne_eqb, not-true, not-false}
 use lib.Dec.{leb, eqb}
 use lib.ListN.{length, get_or, take, drop, length-append, length-drop, take-append-drop, drop_of_length-le}
 use lib.Seq.{drop-cons, get_or-drop, length-take-le, drop-append_seam, drop-drop}
@@ -28,7 +28,7 @@ use Rattle.grammar.proofs.Bytes.{run_yes, run_no, capital_counts, digit_counts, 
 module _ (s : List ℕ) (at n : ℕ) (text : List ℕ) (t : Bool) (e : t ≡ begins text (drop at s)) where
   pub word_not : not t ≡ true → NoPiece ≡ word_token n text (drop at s) at
   unfolding word_token
-  word_not h = rw (← e, not_true t h)
+  word_not h = rw (← e, not-true t h)
 
   module _ (h : not t ≡ false) (u : Bool) (f : u ≡ is_letter_or_digit (get_or s (at + length text) 0)) where
     pub word-goes : u ≡ true → NoPiece ≡ word_token n text (drop at s) at

@@ -7,7 +7,7 @@ use mathlib.Core.List.{List, [], ◌∷◌, ◌++◌, append-nil}
 use mathlib.Core.Option.{Option, none, some}
 use Prim.Native.Nat.{ℕ, ◌+◌, ◌-◌, ◌*◌, ◌≤◌, ◌<◌}
 use native.Mathlib.Omega.{arith}
-use borrow.Author.Tests.{not_true, not-false}
+use borrow.Author.Tests.{not-true, not-false}
 use types.Run.{OneOf, miss}
 use lib.ListN.{length, length-append}
 use Rattle.sets.proofs.Tests.{yes_or_no, yes_no}
@@ -151,7 +151,7 @@ module _ (s : List ℕ) (first : ℕ) (e1 : first ≡ after_token 0 (token_at s 
         module _ (before out : List ℕ) (r : Items) (show : ItemsShow s second before out r (items_at (length s) s second)) where
           pub no_list : not r.ok ≡ true → (parse s ≡ none) × (length out ≡ length before)
           no_list n =
-              let (x, l) = items_none s second before out r (items_at (length s) s second) show (not_true r.ok n) in
+              let (x, l) = items_none s second before out r (items_at (length s) s second) show (not-true r.ok n) in
               (head_failed s (head-is ∙ then_failed _ x), l)
 
           module _ (y3 : not r.ok ≡ false) (room : 2 * length s ≤ length before) where
@@ -271,7 +271,7 @@ module _ (s : List ℕ) (first : ℕ) (e1 : first ≡ after_token 0 (token_at s 
                         unfolding conditioned
                         no-condition n =
                             parse-conditional ∙ ap (conditioned s list.items) (given_is
-                            ∙ shows_none s wanted from out after c g.given g.shown (not_true c.ok n))
+                            ∙ shows_none s wanted from out after c g.given g.shown (not-true c.ok n))
 
                         module _ (y6 : not c.ok ≡ false) where
                           there : ConditionFound s wanted from out after c g.given

@@ -8,7 +8,7 @@ use mathlib.Core.Option.{Option, none, some}
 use Prim.Native.Nat.{ℕ, zero, suc, ◌+◌, ◌-◌, ◌*◌, ◌≤◌, ◌<◌, max}
 use native.Mathlib.Numerals.{add-one}
 use native.Mathlib.Omega.{arith}
-use borrow.Author.Tests.{eqb-true, eq-eqb, ne_eqb, not_true, not-false}
+use borrow.Author.Tests.{eqb-true, eq-eqb, ne_eqb, not-true, not-false}
 use types.Run.{OneOf, miss}
 use denote.Enum.Declared.{tag_of}
 use lib.Dec.{eqb}
@@ -158,7 +158,7 @@ module _ (e : Parse) (depth word : ℕ) (out : List ℕ) where
       → (r ≡ with_word e depth) × (out ≡ word_written e word out)
   unfolding with_word word_written
   with_none r f n =
-      let no = not_true e.ok n in
+      let no = not-true e.ok n in
       (f ∙ sym (rw (no, with_word)), sym (rw (no, word_written)))
 
   pub with_room : (e.ok ≡ true → e.end < length out) → not e.ok ≡ false → e.end < length out

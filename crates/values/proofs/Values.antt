@@ -227,7 +227,7 @@ pub less_at : (kind x y : ℕ) {a b : ℕ} → a ≡ key kind x → b ≡ key ki
 less_at kind x y d e p q = rw (d, e) (less_key kind p q)
 
 pub less_irreflexive : (kind a : ℕ) → less_cell kind a a ≡ false
-less_irreflexive kind a = Tests.not_true _ (not_true.1 (λ e. none ((less_agrees kind a a).0 e)))
+less_irreflexive kind a = Tests.not-true _ (not_true.1 (λ e. none ((less_agrees kind a a).0 e)))
   where
     none : (missing kind a ≡ false) × ((missing kind a ≡ true) ⊎ (value_of kind a <ℤ value_of kind a)) → ⊥
     none (n, inl m) = true≢false (sym m ∙ n)

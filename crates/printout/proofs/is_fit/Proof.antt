@@ -1,6 +1,6 @@
 -- `printout::is_fit` meets its contract, test by test in the order of `fits`.
 -- Assumes nothing.
-use borrow.Author.Tests.{not_true, not-false}
+use borrow.Author.Tests.{not-true, not-false}
 use native.Mathlib.Omega.{arith}
 use borrow.Author.Rules.{rules}
 use Rattle.printout.proofs.Fit.{cells_fit, no_items, many-items, unknown-kind, many-rows, few-cells}
@@ -23,7 +23,7 @@ returns-3 c =
     let at-if2 = at-all-known.before in
     let at-if1 = at-if2.before in
     unknown-kind _ _ _ (omega (arith, at-if1.if1.false)) (omega (arith, at-if2.if2.false))
-    at-all-known.all_known.ensures (not_true _
+    at-all-known.all_known.ensures (not-true _
     c.if3.true)
 
 returns-4 : tie.Need-returns-4

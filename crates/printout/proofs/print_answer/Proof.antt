@@ -1,6 +1,6 @@
 -- `printout::print_answer` meets its contract: the answer is not fit, there is no room, or both parts are written.
 -- Assumes nothing.
-use borrow.Author.Tests.{not_true, not-false}
+use borrow.Author.Tests.{not-true, not-false}
 use native.Mathlib.Omega.{arith}
 use borrow.Author.Rules.{rules}
 use Rattle.printout.proofs.Texts.{answer_not_fit, answer-fit, answer-none, lines-room, answer-written}
@@ -14,7 +14,7 @@ returns : tie.Need-returns
 returns c =
     let at-is-fit = c.before in
     let start = at-is-fit.before.before.before.before in
-    answer_not_fit start.args.serial _ _ _ _ at-is-fit.is-fit.ensures (not_true _ c.if1.true)
+    answer_not_fit start.args.serial _ _ _ _ at-is-fit.is-fit.ensures (not-true _ c.if1.true)
 
 head-length-requires : tie.Need-head-length-requires
 head-length-requires c κs = search rules

@@ -2,7 +2,7 @@
 -- (`FitSoFar`). The measure: the cells left.
 -- Assumes nothing.
 use Prim.Native.Nat.{◌-◌}
-use borrow.Author.Tests.{not_true, not-false}
+use borrow.Author.Tests.{not-true, not-false}
 use borrow.Author.Rules.{rules}
 use lib.ListN.{length}
 use Rattle.printout.proofs.Fit.{FitSoFar, fit_start, fit-no, fit_next, fit_end}
@@ -37,7 +37,7 @@ returns c =
     let at-loop = at-loop-test.before in
     let start = at-loop.before.before.before in
     fit-no start.args.kinds.now start.args.row.now at-loop.loop.invariant at-loop-test.loop-test.true
-    start.requires at-in-range.in_range_law.ensures (not_true _ c.if1.true)
+    start.requires at-in-range.in_range_law.ensures (not-true _ c.if1.true)
 
 add-i : tie.Need-overflow-add-i invariant-loop decreases-loop
 add-i c = search rules

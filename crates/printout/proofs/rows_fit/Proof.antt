@@ -3,7 +3,7 @@
 -- Assumes nothing.
 use mathlib.Core.Path.{sym}
 use native.Mathlib.Nat.{le_of_eq}
-use borrow.Author.Tests.{not_true, not-false}
+use borrow.Author.Tests.{not-true, not-false}
 use native.Mathlib.Omega.{arith}
 use borrow.Author.Rules.{rules}
 use Rattle.printout.proofs.Rows.{RowsFitSoFar, rows_fit_start, rows-fit-no, rows-fit-next, rows_fit_end}
@@ -54,7 +54,7 @@ returns c =
     let at-loop = at-loop-test.before in
     let start = at-loop.before.before.before in
     rows-fit-no start.args.kinds.now start.args.cells.now at-loop.loop.invariant
-    at-loop-test.loop-test.true at-row-fits.row_fits.ensures (not_true _ c.if1.true)
+    at-loop-test.loop-test.true at-row-fits.row_fits.ensures (not-true _ c.if1.true)
 
 add-from : tie.Need-overflow-add-from invariant-loop decreases-loop
 add-from c = search rules

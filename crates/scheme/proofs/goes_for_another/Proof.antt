@@ -4,7 +4,7 @@ use Prim.Native.Nat.{◌-◌}
 use mathlib.Core.Path.{refl, sym, ◌∙◌}
 use mathlib.Core.Logic.{⊎_elim}
 use lib.ListN.{length}
-use borrow.Author.Tests.{not_true, not-false}
+use borrow.Author.Tests.{not-true, not-false}
 use Rattle.reduction.specs.Steps.{at}
 use Rattle.reduction.proofs.Loops.{NotGoneSoFar, gone_start, gone_earlier, gone_wider, not_gone_apart, not_gone_equal}
 use Rattle.reduction.proofs.Loops.{gone_end}
@@ -43,7 +43,7 @@ objects-within-requires-2 : tie.Need-objects-within-requires-2 invariant-loop de
 objects-within-requires-2 c κs = search rules
 
 returns-2 : tie.Need-returns-2 invariant-loop decreases-loop
-returns-2 c = gone_wider (at c.before.before.before.before.before.before.before.before.before.before.args.list.now c.before.before.before.before.before.before.before.before.before.before.args.i) (at c.before.before.before.before.before.before.before.before.before.before.args.list.now c.before.before.before.before.before.before.before.loop.j) c.before.before.before.before.before.before.before.loop.invariant c.before.before.before.before.before.before.loop-test.true refl refl (sym c.before.before.before.before.objects-within.ensures ∙ c.before.before.before.if1.true) (sym c.before.objects-within2.ensures ∙ not_true c.before.objects-within2.result c.if3.true)
+returns-2 c = gone_wider (at c.before.before.before.before.before.before.before.before.before.before.args.list.now c.before.before.before.before.before.before.before.before.before.before.args.i) (at c.before.before.before.before.before.before.before.before.before.before.args.list.now c.before.before.before.before.before.before.before.loop.j) c.before.before.before.before.before.before.before.loop.invariant c.before.before.before.before.before.before.loop-test.true refl refl (sym c.before.before.before.before.objects-within.ensures ∙ c.before.before.before.if1.true) (sym c.before.objects-within2.ensures ∙ not-true c.before.objects-within2.result c.if3.true)
 
 add-j : tie.Need-overflow-add-j invariant-loop decreases-loop
 add-j c = search rules

@@ -5,7 +5,7 @@ use mathlib.Core.Path.{sym, ◌∙◌}
 use mathlib.Core.Logic.{⊎_elim}
 use native.Mathlib.Omega.{arith}
 use lib.ListN.{length, take}
-use borrow.Author.Tests.{not_true, not-false}
+use borrow.Author.Tests.{not-true, not-false}
 use Rattle.scheme.proofs.Packing.{listing_inside, listing_part}
 use Rattle.scheme.proofs.ListLoops.{AddingSoFar, adding_start, adding_room, adding_one, adding_none, adding_end}
 use borrow.Author.Rules.{rules}
@@ -58,7 +58,7 @@ loop-less : tie.Need-loop-smaller invariant-loop decreases-loop
 loop-less c = search rules
 
 loop-again : tie.Need-loop-preserved invariant-loop decreases-loop
-loop-again c = ⊎_elim (λ w. adding_one c.before.before.before.before.before.loop.invariant c.before.before.before.before.loop-test.true (sym c.before.is_one.ensures ∙ not_true c.before.is_one.result w.0.taken) w.2 w.3) (λ w. adding_none c.before.before.before.before.before.loop.invariant c.before.before.before.before.loop-test.true (sym c.before.is_one.ensures ∙ not-false c.before.is_one.result w.0.left) w.1 w.2) c.if1.branch
+loop-again c = ⊎_elim (λ w. adding_one c.before.before.before.before.before.loop.invariant c.before.before.before.before.loop-test.true (sym c.before.is_one.ensures ∙ not-true c.before.is_one.result w.0.taken) w.2 w.3) (λ w. adding_none c.before.before.before.before.before.loop.invariant c.before.before.before.before.loop-test.true (sym c.before.is_one.ensures ∙ not-false c.before.is_one.result w.0.left) w.1 w.2) c.if1.branch
 
 returns : tie.Need-returns invariant-loop decreases-loop
 returns c = adding_end c.before.loop.invariant c.loop-test.false

@@ -5,7 +5,7 @@ use mathlib.Core.Path.{refl, sym, ◌∙◌}
 use mathlib.Core.Logic.{⊎_elim}
 use native.Mathlib.Omega.{arith}
 use lib.ListN.{length}
-use borrow.Author.Tests.{not_true, not-false}
+use borrow.Author.Tests.{not-true, not-false}
 use Rattle.reduction.specs.Packed.{padded}
 use Rattle.scheme.proofs.ListLoops.{RemovingSoFar, removing_start, removing_room, removing_kept, removing_gone}
 use Rattle.scheme.proofs.ListLoops.{removing_end}
@@ -54,7 +54,7 @@ loop-less : tie.Need-loop-smaller invariant-loop decreases-loop
 loop-less c = search rules
 
 loop-again : tie.Need-loop-preserved invariant-loop decreases-loop
-loop-again c = ⊎_elim (λ w. removing_kept c.before.before.before.before.before.before.before.requires c.before.before.before.before.loop.invariant c.before.before.before.loop-test.true (sym c.before.is_one.ensures ∙ not_true c.before.is_one.result w.0.taken) w.2 w.3) (λ w. removing_gone c.before.before.before.before.before.before.before.requires c.before.before.before.before.loop.invariant c.before.before.before.loop-test.true (sym c.before.is_one.ensures ∙ not-false c.before.is_one.result w.0.left) w.1 w.2) c.if1.branch
+loop-again c = ⊎_elim (λ w. removing_kept c.before.before.before.before.before.before.before.requires c.before.before.before.before.loop.invariant c.before.before.before.loop-test.true (sym c.before.is_one.ensures ∙ not-true c.before.is_one.result w.0.taken) w.2 w.3) (λ w. removing_gone c.before.before.before.before.before.before.before.requires c.before.before.before.before.loop.invariant c.before.before.before.loop-test.true (sym c.before.is_one.ensures ∙ not-false c.before.is_one.result w.0.left) w.1 w.2) c.if1.branch
 
 returns : tie.Need-returns invariant-loop decreases-loop
 returns c = removing_end c.before.loop.invariant c.loop-test.false

@@ -3,7 +3,7 @@
 -- Assumes nothing.
 use mathlib.Core.Path.{sym, ◌∙◌}
 use mathlib.Core.Logic.{⊎_elim}
-use borrow.Author.Tests.{not_true, not-false}
+use borrow.Author.Tests.{not-true, not-false}
 use Rattle.sets.specs.Sets.{ATTRIBUTES}
 use Rattle.sets.proofs.Bits.{in_out}
 use Rattle.sets.proofs.Sets.{yes_has, no_has}
@@ -34,7 +34,7 @@ returns c =
     let turn = c.before.before.before.before.before in
     sym (each_failed turn.loop.invariant (omega (arith, c.before.before.before.before.loop-test.true))
     (yes_has _ _ (sym c.before.before.before.has.ensures ∙ c.before.before.if1.true))
-    (λ i. in_out i (no_has _ _ (sym c.before.has2.ensures ∙ not_true c.before.has2.result c.if2.true))))
+    (λ i. in_out i (no_has _ _ (sym c.before.has2.ensures ∙ not-true c.before.has2.result c.if2.true))))
 
 add-k : tie.Need-overflow-add-k invariant-loop decreases-loop
 add-k c = search rules

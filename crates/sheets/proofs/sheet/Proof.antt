@@ -1,7 +1,7 @@
 -- `sheets::sheet` meets its contract, test by test in the order of `sheet_number`.
 -- Assumes nothing.
 use native.Mathlib.Omega.{arith}
-use borrow.Author.Tests.{not_true, not-false}
+use borrow.Author.Tests.{not-true, not-false}
 use borrow.Author.Rules.{rules}
 use Rattle.sheets.proofs.Giving.{few_given, unfit-given, given-fit, zero-given, past-given, number-some}
 use Rattle.sheets.proofs.Giving.{number-last, whole-given}
@@ -20,7 +20,7 @@ returns-2 : tie.Need-returns-2
 returns-2 c =
     let at-is-fit = c.before in
     let start = at-is-fit.before.before.before.before.before in
-    unfit-given start.args.serial _ _ _ _ _ at-is-fit.is-fit.ensures (not_true _ c.if2.true)
+    unfit-given start.args.serial _ _ _ _ _ at-is-fit.is-fit.ensures (not-true _ c.if2.true)
 
 returns-3 : tie.Need-returns-3
 returns-3 c =
