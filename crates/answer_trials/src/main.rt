@@ -1,5 +1,7 @@
 // Answers to queries over books of standard input, each with its serial number and its space of cells. What is written
 // is held to the file stdout, which is written from the paper.
+#![tactic(auto)]
+
 mod asking;
 mod reading;
 mod text;

@@ -1,5 +1,7 @@
 // Reads the book of standard input a thousand times, for bench/read_book.sh to time, and writes what the last reading
 // found.
+#![tactic(auto)]
+
 ghost use Rattle.std.specs.Prelude.{◌≤◌};
 
 use libc::{STDIN_FILENO, STDOUT_FILENO};

@@ -1,4 +1,6 @@
 // Reading the bytes of a book: its scheme, where its rows stand, and the number that it is refused with.
+#![tactic(auto)]
+
 ghost use Rattle.std.specs.Prelude.{◌≡◌, [], ◌<◌, ◌≤◌, length, drop};
 ghost use Rattle.sets.specs.Sets.{count, ATTRIBUTES, OBJECTS};
 ghost use Rattle.scheme.specs.OfScheme.{maximal_of};
@@ -382,7 +384,7 @@ fn unread(found: Reading) -> u8
 }
 
 // What the records of a book come to: the fault of the earliest faulty one, or 0, and what stands before it.
-#[derive(Drop)]
+#[derive(Clone, Copy)]
 struct Walked {
     refusal: u8,
     rows: usize,
@@ -431,7 +433,7 @@ fn walk(bytes: &[u8], directory: &mut [u32]) -> Walked
 // A book that was read: the number that it is refused with, or 0, how many rows it has, its scheme, and its maximal
 // objects, with 0 behind them. A refused book has the rows and the scheme of the records before the fault, and maximal
 // objects only where all records were accepted (0, 21 and 9).
-#[derive(Drop)]
+#[derive(Clone, Copy)]
 pub struct Book {
     pub refusal: u8,
     pub rows: usize,

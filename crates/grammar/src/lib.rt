@@ -1,1 +1,2 @@
 // The grammar of typed queries: definitions and theorems alone.
+#![tactic(auto)]

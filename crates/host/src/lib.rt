@@ -1,5 +1,7 @@
 // The operations for a host program in C: include/vingarbu.h declares them. Each gives back a status; the rest of what
 // it gives goes into cells that the caller lends. A status other than 0 says that nothing was changed.
+#![tactic(auto)]
+
 ghost use Rattle.std.specs.Prelude.{◌≡◌, ◌≤◌, length};
 ghost use Rattle.host.specs.Results.{answer_status, answer_results, answer_space, give_status, give_results};
 ghost use Rattle.host.specs.Results.{given_status, given_results, given_bytes, sheet_status, sheet_results};

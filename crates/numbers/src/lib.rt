@@ -1,4 +1,6 @@
 // Casts between the widths of numbers, which keep the number, and a test as a number.
+#![tactic(auto)]
+
 ghost use Rattle.std.specs.Prelude.{◌≡◌, ◌^◌, ◌<◌};
 ghost use Rattle.numbers.specs.Numbers.{toℕ};
 

@@ -1,4 +1,6 @@
 // The unit's printout: answers and refusals as lines of text, in bytes that the caller lends.
+#![tactic(auto)]
+
 ghost use Rattle.std.specs.Prelude.{◌≡◌, ◌&&◌, cond, [], ◌∷◌, ◌++◌, ◌≤◌, ◌<◌, ◌+◌, ◌-◌, ◌*◌, ◌^◌, eqb, leb, ltb, length};
 ghost use Rattle.sorted.specs.Rows.{rows_in};
 ghost use Rattle.printout.specs.Decimal.{decimal, value_text, cell_text};
@@ -12,7 +14,7 @@ use numbers::index;
 pub const ROOM: usize = 98327;
 
 // What printing gives.
-#[derive(Drop)]
+#[derive(Clone, Copy)]
 pub enum Printed {
     // The whole text stands in the first bytes; this many.
     Bytes(usize),

@@ -1,4 +1,6 @@
 // Reading the bytes of a query over a book that was read: what it asks, and the number that it is refused with.
+#![tactic(auto)]
+
 ghost use Rattle.std.specs.Prelude.{◌≡◌, ◌<◌, ◌≤◌, length, not};
 ghost use Rattle.numbers.specs.Numbers.{is_nil};
 ghost use Rattle.sets.specs.Sets.{ATTRIBUTES, OBJECTS};
@@ -14,14 +16,14 @@ use scheme::Scheme;
 use sets::{ATTRIBUTES, AttributeSet, ObjectSet};
 
 // An item to retrieve: a variable and an attribute.
-#[derive(Drop)]
+#[derive(Clone, Copy)]
 pub struct QueryItem {
     pub variable: u8,
     pub attribute: u8,
 }
 
 // A comparison of two attributes, or of an attribute with a constant. The fields that it does not have are 0.
-#[derive(Drop)]
+#[derive(Clone, Copy)]
 pub struct Comparison {
     pub variable: u8,
     pub attribute: u8,
@@ -34,7 +36,7 @@ pub struct Comparison {
 
 // What a query asks: its items and its comparisons, each list beside its length with zeros behind it, and the
 // attributes named with each variable.
-#[derive(Drop)]
+#[derive(Clone, Copy)]
 pub struct Asked {
     pub items: [QueryItem; 8],
     pub retrieved: usize,
@@ -45,7 +47,7 @@ pub struct Asked {
 
 // A query that was read: the number that it is refused with, or 0; what the records before the fault ask; the bytes
 // read, the end of the query included, 0 where it is refused.
-#[derive(Drop)]
+#[derive(Clone, Copy)]
 pub struct Query {
     pub refusal: u8,
     pub asked: Asked,
@@ -357,7 +359,7 @@ fn unread(found: Reading) -> u8
 
 // What the records of a query come to: the fault of the earliest faulty one, or 0 at the end of the query; what those
 // accepted ask; the position where it stopped.
-#[derive(Drop)]
+#[derive(Clone, Copy)]
 struct Walked {
     refusal: u8,
     asked: Asked,

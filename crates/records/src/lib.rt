@@ -1,4 +1,6 @@
 // Records: "one byte of kind, then a body whose length the kind fixes". Reads the record at a position of some bytes.
+#![tactic(auto)]
+
 ghost use Rattle.std.specs.Prelude.{◌≡◌, true, ◌+◌, ◌%◌, ◌≤◌, ◌<◌, length, drop};
 ghost use Rattle.records.specs.Fields.{field};
 ghost use Rattle.records.specs.Records.{whose, body_length, is_kind, of_book, of_query, kind_of, masks_of};
@@ -8,7 +10,7 @@ use numbers::{long, place, wide};
 
 // A record of a book, in the order of the paper's table: kinds 1 to 6, 13, 14 and 15. A comparison table has a word
 // for each left kind, whose bytes are the masks of the right kinds, the lowest first.
-#[derive(Drop)]
+#[derive(Clone, Copy)]
 pub enum BookRecord {
     Attribute {
         id: u8,
@@ -50,7 +52,7 @@ pub enum BookRecord {
 }
 
 // A record of a query: kinds 7 to 10.
-#[derive(Drop)]
+#[derive(Clone, Copy)]
 pub enum QueryRecord {
     Item {
         variable: u8,
@@ -73,14 +75,14 @@ pub enum QueryRecord {
 }
 
 // A record, by whose kind it is.
-#[derive(Drop)]
+#[derive(Clone, Copy)]
 pub enum Record {
     OfBook(BookRecord),
     OfQuery(QueryRecord),
 }
 
 // What reading at a position finds.
-#[derive(Drop)]
+#[derive(Clone, Copy)]
 pub enum Reading {
     // No byte stands there.
     Nothing,

@@ -1,5 +1,7 @@
 // Rows of a book in its bytes: the cell of an attribute. A row is given by the position of its record and the attribute
 // set of its object.
+#![tactic(auto)]
+
 ghost use Rattle.std.specs.Prelude.{◌≡◌};
 ghost use Rattle.sets.specs.Sets.{◌∈◌};
 ghost use Rattle.relation.specs.Tables.{cell_of};

@@ -1,6 +1,8 @@
 // The scheme of a book, by value, and its maximal objects. Functions over slices do the work: the first n places of
 // left and right are the dependencies, place k of sets is the set of object k. The last two functions take a whole
 // scheme.
+#![tactic(auto)]
+
 ghost use Rattle.std.specs.Prelude.{◌≡◌, true, false, not, ◌≤◌, ◌<◌, min, length, take};
 ghost use Rattle.sets.specs.Sets.{within, ◌∩◌, OBJECTS};
 ghost use Rattle.reduction.specs.Kept.{goes, keeps, maximal, acyclic};
@@ -17,7 +19,7 @@ use sets::{ATTRIBUTES, AttributeSet, OBJECTS, ObjectSet};
 
 // What the records of kinds 5, 6 and 14 say of maximal objects: those declared and those to be removed, each array
 // beside its count, and whether only declared ones count. Places behind the counts are 0.
-#[derive(Drop)]
+#[derive(Clone, Copy)]
 pub struct MaximalRecords {
     pub declared: [ObjectSet; 8],
     pub declarations: usize,
@@ -28,7 +30,7 @@ pub struct MaximalRecords {
 
 // The comparison table of a book: its masks, and how many records of kind 13 gave one. Where none did, the masks are
 // those of the built-in table.
-#[derive(Drop)]
+#[derive(Clone, Copy)]
 pub struct TableOfMasks {
     pub masks: [u8; 16],
     pub given: usize,
@@ -37,7 +39,7 @@ pub struct TableOfMasks {
 // What a book declares: the value kind of each attribute, the set of each object, the dependencies, each array beside
 // its count or the set of what is declared; what it says of maximal objects; its comparison table. Places that nothing
 // was declared for are 0.
-#[derive(Drop)]
+#[derive(Clone, Copy)]
 pub struct Scheme {
     pub kinds: [u8; ATTRIBUTES as usize],
     pub attributes: AttributeSet,
@@ -221,7 +223,7 @@ pub fn grow<'a>(
 }
 
 // A list of sets of objects, as many as a scheme can have maximal objects; the places behind them are 0.
-#[derive(Drop)]
+#[derive(Clone, Copy)]
 pub struct ObjectList {
     pub sets: [ObjectSet; MAXIMALS],
     pub count: usize,
@@ -424,7 +426,7 @@ pub fn computed(s: Scheme) -> ObjectList
 
 // The maximal objects of a scheme with the two faults: a set to be removed where only declared ones count, and a
 // maximal object with a cycle. The places behind the sets are 0.
-#[derive(Drop)]
+#[derive(Clone, Copy)]
 pub struct MaximalList {
     pub sets: [ObjectSet; MAXIMALS],
     pub count: usize,

@@ -1,5 +1,7 @@
 // Attribute and object sets as masks: bit k stands for attribute or object k. Each function is one operation on the
 // whole set; its contract is an equation with a definition of specs/Sets.antt, which holds for every width.
+#![tactic(auto)]
+
 ghost use Rattle.std.specs.Prelude.{◌≡◌, ◌<◌};
 ghost use Rattle.sets.specs.Sets.{has, within, within_each, ◌∩◌, ◌∪◌, ◌∖◌, single, insert, remove, is_empty};
 ghost use Rattle.sets.specs.Sets.{rank, count, lowest, ATTRIBUTES, OBJECTS};

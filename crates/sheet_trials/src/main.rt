@@ -1,5 +1,7 @@
 // The trials of sheets (request 3): each call of `sheets::sheet` with what it gives back and what it leaves in the bytes
 // lent to it. What is written is held to the file stdout, which examples/sheets.py writes from the request's words.
+#![tactic(auto)]
+
 use libc::STDOUT_FILENO;
 
 // What lent bytes hold before a call.

@@ -1,4 +1,6 @@
 // Typed queries: the pieces of a text, and the reading that the grammar gives them.
+#![tactic(auto)]
+
 ghost use Rattle.std.specs.Prelude.{◌≡◌, true, false, cond, [], ◌∷◌, eqb, ◌+◌, ◌-◌, ◌^◌, ◌*◌, ◌≤◌, ◌<◌, min, max, length, get_or, take, drop};
 ghost use Rattle.grammar.specs.Pieces.{between, is_letter_or_digit};
 ghost use Rattle.grammar.specs.Parser.{run, begins};
@@ -12,7 +14,7 @@ ghost use Rattle.text.specs.Tokens.{name_number, magnitude, token_at, word_token
 pub const MAX_TEXT: usize = 1024;
 
 // What stands at a position of a text, behind spaces: a piece, and the position behind it.
-#[derive(Drop)]
+#[derive(Clone, Copy)]
 pub enum Token {
     // No byte but spaces.
     AtEnd,
@@ -266,7 +268,7 @@ pub fn token_at(s: &[u8], at: usize) -> Token
 }
 
 // What a parser of conditions finds.
-#[derive(Drop)]
+#[derive(Clone, Copy)]
 pub struct Parse {
     // Whether there is one.
     pub ok: bool,
@@ -280,7 +282,7 @@ pub struct Parse {
 
 // A comparison: two items by letter and number, or an item and a constant (letter 1, or 2 behind a minus, and the
 // magnitude).
-#[derive(Drop)]
+#[derive(Clone, Copy)]
 pub struct Compared {
     pub ok: bool,
     pub letter: u8,
@@ -545,7 +547,7 @@ pub fn condition_at(s: &[u8], at: usize, out: &mut [u64]) -> Parse
 }
 
 // The items that a text asks for.
-#[derive(Drop)]
+#[derive(Clone, Copy)]
 pub struct Items {
     // Whether there are some.
     pub ok: bool,
@@ -595,7 +597,7 @@ fn items_at(s: &[u8], at: usize, out: &mut [u64]) -> Items
 }
 
 // What a text says: its items stand in the first 2 * items words, the program of its condition behind them.
-#[derive(Drop)]
+#[derive(Clone, Copy)]
 pub struct Text {
     // Whether the grammar has it.
     pub ok: bool,

@@ -1,4 +1,6 @@
 // The trials that a program checks: what it writes is held to the file stdout, which is written from the paper.
+#![tactic(auto)]
+
 mod books_trial;
 mod host_trial;
 mod queries_trial;

@@ -1,5 +1,7 @@
 // The unit on a book with a cycle, beside a query that would be answered: "A refused book prints `book refused N`
 // only".
+#![tactic(auto)]
+
 fn main() {
     program::run_unit();
 }
