@@ -1,0 +1,8 @@
+-- `answer_trials::reading::push` stays within the slice: it stores only where there is room.
+-- Assumes nothing.
+use native.Mathlib.Omega.{arith}
+use lib.ListN.{length-set}
+use Rattle.answer_trials.proofs.reading.push.Goals as goal
+
+pub returns-then-n-out : goal.returns-then-n-out
+returns-then-n-out c = simp length-set (omega arith)

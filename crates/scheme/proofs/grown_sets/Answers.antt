@@ -1,0 +1,30 @@
+-- `scheme::grown_sets` meets its contract. The invariant: the array and the count are the sets grown from the objects
+-- below `k` (`MembersSoFar`). The measure: the objects left. Assumes nothing.
+use Prim.Native.Nat.{◌-◌}
+use mathlib.Core.Path.{refl, sym, ◌∙◌}
+use mathlib.Core.Logic.{⊎_elim}
+use native.Mathlib.Omega.{arith}
+use Rattle.reduction.specs.Packed.{padded}
+use Rattle.scheme.proofs.Loops.{members_start, members_room, members_with, members_past}
+use Rattle.scheme.proofs.Loops.{members_end}
+use Rattle.scheme.proofs.Packing.{listing_listed}
+use Rattle.scheme.proofs.grown_sets.Goals as goal
+
+pub loop-k-init : goal.loop-k-init
+unfolding padded
+loop-k-init c = members_start _ _ _ _ (omega arith) refl
+
+pub offset_bounds-out-count : goal.offset_bounds-out-count
+offset_bounds-out-count c = omega (arith, members_room c.loop-k.invariant c.loop-k-test.true)
+
+pub bounds-out-count : goal.bounds-out-count
+bounds-out-count c = omega (arith, members_room c.loop-k.invariant c.loop-k-test.true)
+
+pub overflow_add-count : goal.overflow_add-count
+overflow_add-count c = omega (arith, members_room c.loop-k.invariant c.loop-k-test.true)
+
+pub loop-k-preserved : goal.loop-k-preserved
+loop-k-preserved c = ⊎_elim (λ w. members_with c.loop-k.invariant c.loop-k-test.true w.1.result (sym c.has_object.ensures ∙ w.0.taken) w.1.ensures w.2 w.3) (λ w. members_past c.loop-k.invariant c.loop-k-test.true (sym c.has_object.ensures ∙ w.0.left) w.1 w.2) c.if-has_object.branch
+
+pub returns : goal.returns
+returns c = listing_listed (members_end c.loop-k.invariant c.loop-k-test.false)

@@ -1,0 +1,30 @@
+-- `scheme::without_removed` meets its contract. The invariant: the array has what is left of the places before `i`
+-- (`RemovingSoFar`). The measure: the places left. Assumes nothing.
+use Prim.Native.Nat.{◌-◌}
+use mathlib.Core.Path.{refl, sym, ◌∙◌}
+use mathlib.Core.Logic.{⊎_elim}
+use native.Mathlib.Omega.{arith}
+use borrow.Author.Tests.{not-true, not-false}
+use Rattle.reduction.specs.Packed.{padded}
+use Rattle.scheme.proofs.ListLoops.{removing_start, removing_room, removing_kept, removing_gone}
+use Rattle.scheme.proofs.ListLoops.{removing_end}
+use Rattle.scheme.proofs.without_removed.Goals as goal
+
+pub loop-i-init : goal.loop-i-init
+unfolding padded
+loop-i-init c = removing_start _ _ refl
+
+pub offset_bounds-out-count : goal.offset_bounds-out-count
+offset_bounds-out-count c = omega (arith, removing_room c.requires c.loop-i.invariant c.loop-i-test.true)
+
+pub bounds-out-count : goal.bounds-out-count
+bounds-out-count c = omega (arith, removing_room c.requires c.loop-i.invariant c.loop-i-test.true)
+
+pub overflow_add-count : goal.overflow_add-count
+overflow_add-count c = omega (arith, removing_room c.requires c.loop-i.invariant c.loop-i-test.true)
+
+pub loop-i-preserved : goal.loop-i-preserved
+loop-i-preserved c = ⊎_elim (λ w. removing_kept c.requires c.loop-i.invariant c.loop-i-test.true (sym c.is_one.ensures ∙ not-true c.is_one.result w.0.taken) w.2 w.3) (λ w. removing_gone c.requires c.loop-i.invariant c.loop-i-test.true (sym c.is_one.ensures ∙ not-false c.is_one.result w.0.left) w.1 w.2) c.if-not-is_one.branch
+
+pub returns : goal.returns
+returns c = removing_end c.loop-i.invariant c.loop-i-test.false
