@@ -398,7 +398,7 @@ def convert(folder, info, crate, fn, goalfn):
             answers.append(("raw", None, "-- TODO " + name + "\n-- " + it.replace("\n", "\n-- ")))
             continue
         new, at = hit
-        if re.sub(r"\s+", " ", body.strip()) == "search rules":
+        if re.sub(r"\s+", " ", body.strip()) == "search rules" and not pend and name not in unf:
             continue
         oldplace = info.j["asked_at"][at][0]
         place = info.index.get(norm(oldplace))
