@@ -7,8 +7,8 @@ use Rattle.query.proofs.fault.Goals as goal
 pub returns-in-OfBook : goal.returns-in-OfBook
 unfolding fault_of checks first_of
 returns-in-OfBook c = let a = c.args in
-    ap (fault_of a.s a.q) (sym c.enum_told-1.given.1)
+    ap (fault_of a.s a.q) (sym c.in-OfBook.is)
 
 pub returns-in-OfQuery : goal.returns-in-OfQuery
 returns-in-OfQuery c = let a = c.args in
-    c.query_fault.ensures ∙ ap (fault_of a.s a.q) (sym c.r-1.given.1)
+    c.query_fault.ensures ∙ ap (fault_of a.s a.q) (sym c.in-OfQuery.is)

@@ -14,4 +14,4 @@ pub returns-in-CompareConstant : goal.returns-in-CompareConstant
 returns-in-CompareConstant c = search (rules, of_variant)
 
 pub returns-in-End : goal.returns-in-End
-returns-in-End c = of_variant _ _ (end_right _ _) c.enum_told-1.given.1
+returns-in-End c = of_variant _ _ (end_right _ _) c.in-End.is

@@ -5,16 +5,16 @@ use Rattle.query.proofs.unread.Goals as goal
 
 pub returns-in-Nothing : goal.returns-in-Nothing
 unfolding stop_number
-returns-in-Nothing c = ap stop_number (sym c.enum_told-1.given.1)
+returns-in-Nothing c = ap stop_number (sym c.in-Nothing.is)
 
 pub returns-in-Unknown : goal.returns-in-Unknown
 unfolding stop_number
-returns-in-Unknown c = ap stop_number (sym c.enum_told-in-Unknown-1.given.1)
+returns-in-Unknown c = ap stop_number (sym c.in-Unknown.is)
 
 pub returns-in-Short : goal.returns-in-Short
 unfolding stop_number
-returns-in-Short c = c.short_fault.ensures ∙ ap stop_number (sym c.found-1.given.1)
+returns-in-Short c = c.short_fault.ensures ∙ ap stop_number (sym c.in-Short.is)
 
 pub returns-in_default : goal.returns-in_default
 unfolding stop_number
-returns-in_default c = ap stop_number (sym c.enum_told-in_default-1.given.1)
+returns-in_default c = ap stop_number (sym c.in_default.is)

@@ -9,16 +9,16 @@ use borrow.Author.Rules.{rules}
 use Rattle.query.proofs.with_query_record.Goals as goal
 
 pub with_item-requires : goal.with_item-requires
-with_item-requires c = item_room _ _ c.requires _ _ c.r-1.given.1
+with_item-requires c = item_room _ _ c.requires _ _ c.in-Item.is
 
 pub with_name-requires : goal.with_name-requires
-with_name-requires c = item_named _ _ c.requires _ _ c.r-1.given.1
+with_name-requires c = item_named _ _ c.requires _ _ c.in-Item.is
 
 pub with_two-requires : goal.with_two-requires
-with_two-requires c = two_fits _ _ c.requires _ _ _ _ _ c.r-in-CompareTwo-1.given.1
+with_two-requires c = two_fits _ _ c.requires _ _ _ _ _ c.in-CompareTwo.is
 
 pub with_constant-requires : goal.with_constant-requires
-with_constant-requires c = constant_fits _ _ c.requires _ _ _ _ c.r-in-CompareConstant-1.given.1
+with_constant-requires c = constant_fits _ _ c.requires _ _ _ _ c.in-CompareConstant.is
 
 pub returns-in-Item : goal.returns-in-Item
 returns-in-Item c = search (rules, with_item_record)
@@ -31,4 +31,4 @@ returns-in-CompareConstant c = search (rules, with_variant)
 
 pub returns-in-End : goal.returns-in-End
 unfolding with_record
-returns-in-End c = ap (λ (r : QueryRecord). with_record c.args.q (OfQuery r)) (sym c.enum_told-1.given.1)
+returns-in-End c = ap (λ (r : QueryRecord). with_record c.args.q (OfQuery r)) (sym c.in-End.is)

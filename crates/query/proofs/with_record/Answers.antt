@@ -6,12 +6,12 @@ use Rattle.query.proofs.with_record.Goals as goal
 
 pub with_query_record-requires : goal.with_query_record-requires
 with_query_record-requires c = let a = c.args in
-    ap (fault_of a.s a.q) (sym c.r-1.given.1)
+    ap (fault_of a.s a.q) (sym c.in-OfQuery.is)
     ∙ c.requires
 
 pub returns-in-OfBook : goal.returns-in-OfBook
 unfolding with_record
-returns-in-OfBook c = ap (with_record c.args.q) (sym c.enum_told-1.given.1)
+returns-in-OfBook c = ap (with_record c.args.q) (sym c.in-OfBook.is)
 
 pub returns-in-OfQuery : goal.returns-in-OfQuery
-returns-in-OfQuery c = c.with_query_record.ensures ∙ ap (with_record c.args.q) (sym c.r-1.given.1)
+returns-in-OfQuery c = c.with_query_record.ensures ∙ ap (with_record c.args.q) (sym c.in-OfQuery.is)
