@@ -1,5 +1,5 @@
 -- `book::attribute_fault` meets its contract: each way out is the first check of kind 1 that holds. Assumes nothing.
-use mathlib.Core.List.{◌∷◌}
+use mathlib.Core.List.{[], ◌∷◌}
 use lib.Dec.{leb}
 use Rattle.sets.specs.Sets.{has, ATTRIBUTES}
 use borrow.Author.Tests.{lt-ltb, le-ltb, le-leb, lt-leb}

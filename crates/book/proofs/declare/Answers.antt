@@ -5,11 +5,11 @@ use Rattle.book.specs.Declaring.{declare}
 use Rattle.book.proofs.declare.Goals as goal
 
 pub declare_record-requires : goal.declare_record-requires
-declare_record-requires c = ap (fault_of c.args.s) (sym c.r-1.given.1) ∙ c.requires
+declare_record-requires c = ap (fault_of c.args.s) (sym c.in-OfBook.is) ∙ c.requires
 
 pub returns-in-OfBook : goal.returns-in-OfBook
-returns-in-OfBook c = c.declare_record.ensures ∙ ap (declare c.args.s) (sym c.r-1.given.1)
+returns-in-OfBook c = c.declare_record.ensures ∙ ap (declare c.args.s) (sym c.in-OfBook.is)
 
 pub returns-in-OfQuery : goal.returns-in-OfQuery
 unfolding declare
-returns-in-OfQuery c = ap (declare c.args.s) (sym c.enum_told-1.given.1)
+returns-in-OfQuery c = ap (declare c.args.s) (sym c.in-OfQuery.is)

@@ -4,21 +4,20 @@ use Rattle.book.proofs.read.Goals as goal
 
 pub returns-then-bytes-gt65536 : goal.returns-then-bytes-gt65536
 returns-then-bytes-gt65536 c = let over = c.if-bytes-gt65536.true in
-    (book_over _ over c.nothing_declared.ensures c.stopped.ensures, directory_over _ over _)
+    record { value = book_over _ over c.nothing_declared.ensures c.stopped.ensures; directory_after = directory_over _ over _ }
 
 pub returns-then-w-ne0 : goal.returns-then-w-ne0
 returns-then-w-ne0 c = let within = c.if-bytes-gt65536.false in
-    let w = (c.walk-w.ensures.value, c.walk-w.ensures.directory_after) in (
-      book_stopped _ within w.0 c.if-w-ne0.true c.stopped-then-w-ne0.ensures,
-      directory_within _ within w.0 _
-          w.1,
-    )
+    let w = c.walk-w.ensures in
+    record {
+      value = book_stopped _ within w.value c.if-w-ne0.true c.stopped-then-w-ne0.ensures;
+      directory_after = directory_within _ within w.value _ w.directory_after;
+    }
 
 pub returns : goal.returns
 returns c = let within = c.if-bytes-gt65536.false in
-    let w = (c.walk-w.ensures.value, c.walk-w.ensures.directory_after) in
+    let w = c.walk-w.ensures in
     record {
-      value = book_finished _ within w.0 c.if-w-ne0.false c.finished.ensures;
-      directory_after = directory_within _ within w.0 _
-          w.1;
+      value = book_finished _ within w.value c.if-w-ne0.false c.finished.ensures;
+      directory_after = directory_within _ within w.value _ w.directory_after;
     }

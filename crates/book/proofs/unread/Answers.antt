@@ -6,11 +6,11 @@ use Rattle.book.proofs.unread.Goals as goal
 
 pub returns-in-Unknown : goal.returns-in-Unknown
 unfolding stop_number
-returns-in-Unknown c = ap stop_number (sym c.enum_told-1.given.1)
+returns-in-Unknown c = ap stop_number (sym c.in-Unknown.is)
 
 pub returns-in-Short : goal.returns-in-Short
 unfolding stop_number
-returns-in-Short c = c.short_fault.ensures ∙ ap stop_number (sym c.found-1.given.1)
+returns-in-Short c = c.short_fault.ensures ∙ ap stop_number (sym c.in-Short.is)
 
 pub returns-in_default : goal.returns-in_default
-returns-in_default c = stops_at_end _ c.in_default.keys3
+returns-in_default c = stops_at_end _ c.in_default.not-Unknown c.in_default.not-Short
