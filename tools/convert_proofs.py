@@ -101,7 +101,8 @@ class Converter:
 
     def path(self, place, rest, c="c"):
         """The new path of `place.rest`; None where the whole place is meant."""
-        rest = list(rest)
+        older = {"pre": "requires", "inv": "invariant", "left": "false", "taken": "true", "came": "branch", "type-inv": "type_inv"}
+        rest = [older.get(r, r) for r in rest]
         first = place
         while rest and rest[0] == "before":
             up = self.i.parent(place)
@@ -179,7 +180,7 @@ class Converter:
         return place, ".".join([c, new] + rest)
 
     def expr(self, text, place, need, c="c"):
-        env = {c: place}
+        env = {c: (place, [])}
         self.goal = place
         out, pos = [], 0
         # aliases of whole places
@@ -188,19 +189,19 @@ class Converter:
             found = False
             for m in let.finditer(text):
                 if m[2] in env:
-                    q, new = self.path(env[m[2]], m[3].split(".")[1:], c)
-                    if new is None:
-                        env[m[1]] = q
-                        text = text[:m.start()] + text[m.end():]
-                        found = True
-                        break
+                    q, prefix = env[m[2]]
+                    env[m[1]] = (q, prefix + m[3].split(".")[1:])
+                    text = text[:m.start()] + text[m.end():]
+                    found = True
+                    break
             if not found:
                 break
 
         def sub(m):
             if m[1] not in env:
                 return m[0]
-            q, new = self.path(env[m[1]], m[2].split(".")[1:], c)
+            q, prefix = env[m[1]]
+            q, new = self.path(q, prefix + m[2].split(".")[1:], c)
             if new is not None:
                 return new
             if m[1] == c and not m[2]:
@@ -451,7 +452,7 @@ def convert(folder, info, crate, fn, goalfn):
     return conv.todo
 
 
-WORDS = re.compile(r"[^\s(){}\[\],;.]+")
+WORDS = re.compile(r"\[\]|[^\s(){}\[\],;.]+")
 
 
 def trim(path):

@@ -4,8 +4,7 @@ use Rattle.host.proofs.Given.{bytes_here, told_short, told_not_fit}
 use Rattle.host.proofs.report.Goals as goal
 
 pub returns-in-Bytes : goal.returns-in-Bytes
-returns-in-Bytes c = let known = c.p-1.given.1 in
-    bytes_here _ known c.requires c.of_size.ensures
+returns-in-Bytes c = bytes_here _ c.p-1.given.1 c.requires c.of_size.ensures
 
 pub returns-in-NoRoom : goal.returns-in-NoRoom
 returns-in-NoRoom c = told_short _ c.enum_told-1.given.1

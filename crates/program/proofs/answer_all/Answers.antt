@@ -15,72 +15,61 @@ pub loop-at-init : goal.loop-at-init
 loop-at-init c = going_at_first c.args.input.now
 
 pub step-step-requires : goal.step-step-requires
-step-step-requires c = let loop = c.loop-at in (
+step-step-requires c = (
   c.requires.book_value,
   (
-    memory_whole loop.invariant.levels loop.invariant.columns loop.invariant.rows (omega (arith, loop.invariant.sorting)),
+    memory_whole c.loop-at.invariant.levels c.loop-at.invariant.columns c.loop-at.invariant.rows (omega (arith, c.loop-at.invariant.sorting)),
     (
       c.requires.bytes_value,
-      loop.invariant.cells,
+      c.loop-at.invariant.cells,
       omega (
         arith,
-        loop.invariant.text,
+        c.loop-at.invariant.text,
       ),
     ),
   ),
 )
 
 pub slice_bounds-out-end : goal.slice_bounds-out-end
-slice_bounds-out-end c = let loop = c.loop-at in
-    let step = c.step-step in
-    omega (
-      arith,
-      printed_inside c.args.bytes.now c.args.input.now (length c.args.input.now - loop.at) loop.at loop.serial loop.inv.serials step.ensures.0,
-    )
+slice_bounds-out-end c = omega (
+  arith,
+  printed_inside c.args.bytes.now c.args.input.now (length c.args.input.now - c.loop-at.at) c.loop-at.at c.loop-at.serial c.loop-at.invariant.serials c.step-step.ensures.value,
+)
 
 pub slice_bounds-write_all-end : goal.slice_bounds-write_all-end
-slice_bounds-write_all-end c = let loop = c.loop-at in
-    let step = c.step-step in
-    sym (length-take-le _ _ (omega (
-      arith,
-      loop.inv.text,
-      printed_inside c.args.bytes.now c.args.input.now (length c.args.input.now - loop.at) loop.at loop.serial loop.inv.serials step.ensures.0,
-    )))
+slice_bounds-write_all-end c = sym (length-take-le _ _ (omega (
+  arith,
+  c.loop-at.invariant.text,
+  printed_inside c.args.bytes.now c.args.input.now (length c.args.input.now - c.loop-at.at) c.loop-at.at c.loop-at.serial c.loop-at.invariant.serials c.step-step.ensures.value,
+)))
 
 pub overflow_add-at : goal.overflow_add-at
-overflow_add-at c = let loop = c.loop-at in
-    let step = c.step-step in
-    omega (
-      arith,
-      c.good,
-      read_inside c.args.bytes.now c.args.input.now (length c.args.input.now - loop.at) loop.at loop.serial loop.inv.serials step.ensures.0 loop.inv.inside,
-    )
+overflow_add-at c = omega (
+  arith,
+  c.good,
+  read_inside c.args.bytes.now c.args.input.now (length c.args.input.now - c.loop-at.at) c.loop-at.at c.loop-at.serial c.loop-at.invariant.serials c.step-step.ensures.value c.loop-at.invariant.inside,
+)
 
 pub loop-at-smaller : goal.loop-at-smaller
-loop-at-smaller c = let loop = c.loop-at in
-    let step = c.step-step in
-    let if2 = c.if-not-step in
-    omega (
-      arith,
-      read_inside c.args.bytes.now c.args.input.now (length c.args.input.now
-          - loop.at) loop.at loop.serial loop.inv.serials step.ensures.0 loop.inv.inside,
-      read_some
-          c.args.bytes.now c.args.input.now (length c.args.input.now - loop.at) loop.at
-          loop.serial loop.inv.serials step.ensures.0 (not-false step.result.more if2.false),
-    )
+loop-at-smaller c = omega (
+  arith,
+  read_inside c.args.bytes.now c.args.input.now (length c.args.input.now
+      - c.loop-at.at) c.loop-at.at c.loop-at.serial c.loop-at.invariant.serials c.step-step.ensures.value c.loop-at.invariant.inside,
+  read_some
+      c.args.bytes.now c.args.input.now (length c.args.input.now - c.loop-at.at) c.loop-at.at
+      c.loop-at.serial c.loop-at.invariant.serials c.step-step.ensures.value (not-false c.step-step.result.more c.if-not-step.false),
+)
 
 pub loop-at-preserved : goal.loop-at-preserved
-loop-at-preserved c = let loop = c.loop-at in
-    let step = c.step-step in
-    record {
-      inside = read_inside c.args.bytes.now c.args.input.now (length c.args.input.now - loop.at) loop.at loop.serial loop.inv.serials step.ensures.0 loop.inv.inside;
-      cells =
-          search rules;
-      levels = search rules;
-      columns = search rules;
-      rows = search rules;
-      sorting = search rules;
-      text =
-          search rules;
-      serials = next_serial c.args.bytes.now c.args.input.now (length c.args.input.now - loop.at) loop.at loop.serial loop.inv.serials step.ensures.0;
-    }
+loop-at-preserved c = record {
+  inside = read_inside c.args.bytes.now c.args.input.now (length c.args.input.now - c.loop-at.at) c.loop-at.at c.loop-at.serial c.loop-at.invariant.serials c.step-step.ensures.value c.loop-at.invariant.inside;
+  cells =
+      search rules;
+  levels = search rules;
+  columns = search rules;
+  rows = search rules;
+  sorting = search rules;
+  text =
+      search rules;
+  serials = next_serial c.args.bytes.now c.args.input.now (length c.args.input.now - c.loop-at.at) c.loop-at.at c.loop-at.serial c.loop-at.invariant.serials c.step-step.ensures.value;
+}

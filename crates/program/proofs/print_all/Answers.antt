@@ -9,21 +9,16 @@ use Rattle.program.proofs.Going.{zeros_long, opening_inside, opened_good}
 use Rattle.program.proofs.print_all.Goals as goal
 
 pub slice_bounds-out-end : goal.slice_bounds-out-end
-slice_bounds-out-end c = let opening = c.opening-opened in
-    omega (arith, opening_inside _ _ opening.ensures.0 (omega arith))
+slice_bounds-out-end c = omega (arith, opening_inside _ _ c.opening-opened.ensures.value (omega arith))
 
 pub slice_bounds-write_all-end : goal.slice_bounds-write_all-end
-slice_bounds-write_all-end c = let opening = c.opening-opened in
-    sym (length-take-le _ _ (omega (arith, opening_inside _ _ opening.ensures.0 (omega arith))))
+slice_bounds-write_all-end c = sym (length-take-le _ _ (omega (arith, opening_inside _ _ c.opening-opened.ensures.value (omega arith))))
 
 pub answer_all-requires : goal.answer_all-requires
-answer_all-requires c = let read = c.read-book in
-    let opening = c.opening-opened in
-    let if1 = c.if-opened in
-    record {
-      book_value = (
-        read.ensures.0,
-        all_stored c.args.bytes.now (replicate 2520 0) _ (zeros_long 2520) read.ensures.1,
-      );
-      bytes_value = sym (number_is c.args.bytes.now read.ensures.0) ∙ opened_good _ _ opening.ensures.0 if1.true;
-    }
+answer_all-requires c = record {
+  book_value = (
+    c.read-book.ensures.value,
+    all_stored c.args.bytes.now (replicate 2520 0) _ (zeros_long 2520) c.read-book.ensures.directory_after,
+  );
+  bytes_value = sym (number_is c.args.bytes.now c.read-book.ensures.value) ∙ opened_good _ _ c.opening-opened.ensures.value c.if-opened.true;
+}

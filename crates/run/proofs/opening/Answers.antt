@@ -5,16 +5,10 @@ use native.Mathlib.Omega.{arith}
 use Rattle.run.proofs.opening.Goals as goal
 
 pub returns-then-refusal-ne0 : goal.returns-then-refusal-ne0
-returns-then-refusal-ne0 c = let if1 = c.if-refusal-ne0 in
-    let print-book-refusal = c.print_book_refusal-p in
-    opens-book c.args.refusal c.args.input c.args.out.now c.requires (omega arith) if1.true c.length_of.ensures print-book-refusal.ensures.0 print-book-refusal.ensures.1
+returns-then-refusal-ne0 c = opens-book c.args.refusal c.args.input c.args.out.now c.requires (omega arith) c.if-refusal-ne0.true c.length_of.ensures c.print_book_refusal-p.ensures.value c.print_book_refusal-p.ensures.out_after
 
 pub returns-then-input-gt65536 : goal.returns-then-input-gt65536
-returns-then-input-gt65536 c = let if1 = c.if-refusal-ne0 in
-    let if2 = c.if-input-gt65536 in
-    let refuse = c.refuse in
-    opens-long c.args.refusal c.args.input c.args.out.now c.requires if1.false if2.true refuse.ensures.0 refuse.ensures.1
+returns-then-input-gt65536 c = opens-long c.args.refusal c.args.input c.args.out.now c.requires c.if-refusal-ne0.false c.if-input-gt65536.true c.refuse.ensures.value c.refuse.ensures.out_after
 
 pub returns : goal.returns
-returns c = let if1 = c.if-refusal-ne0 in
-    let r = opens-run c.args.refusal c.args.input c.args.out.now c.requires if1.false c.if-input-gt65536.false in record { value = r.0; out_after = r.1 }
+returns c = let r = opens-run c.args.refusal c.args.input c.args.out.now c.requires c.if-refusal-ne0.false c.if-input-gt65536.false in record { value = r.0; out_after = r.1 }
