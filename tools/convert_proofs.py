@@ -101,7 +101,7 @@ class Converter:
 
     def path(self, place, rest, c="c"):
         """The new path of `place.rest`; None where the whole place is meant."""
-        older = {"pre": "requires", "inv": "invariant", "left": "false", "taken": "true", "came": "branch", "type-inv": "type_inv"}
+        older = {"pre": "requires", "inv": "invariant", "fits": "ranges", "left": "false", "taken": "true", "came": "branch", "type-inv": "type_inv"}
         rest = [older.get(r, r) for r in rest]
         first = place
         while rest and rest[0] == "before":
@@ -112,7 +112,7 @@ class Converter:
         if not rest:
             return place, None
         f = rest[0]
-        if f in ("args", "requires", "ranges", "well-formed", "well_formed"):
+        if f in ("args", "requires", "ranges", "well-formed", "well_formed", "lifetimes") and f != self.i.places[place][2][0]:
             place = 0
         if place == 0 or self.i.places[place][1] is None:
             if f == "requires":
@@ -406,7 +406,9 @@ def convert(folder, info, crate, fn, goalfn):
         c = args[0] if args else "c"
         b = conv.expr(body, place, new, c)
         b = re.sub(r"\(goal\.at\.(\S+) (\w+)\)", lambda mm: f"(goal.at.{mm[1]} {mm[2]})", b)
-        fields = info.j["asked"].get(new)
+        base = re.match(r"returns|.*?-requires(?=-|$)|", new)[0]
+        like = [v for k, v in info.j["asked"].items() if base and re.match(re.escape(base) + r"(-|$)", k)]
+        fields = info.j["asked"].get(new) or (like[0] if like else None)
         if fields and len(fields) > 1:
             b = record(b, fields)
         u = "".join(x + "\n" for x in unf.get(name, []) + pend)

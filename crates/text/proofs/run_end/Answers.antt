@@ -10,7 +10,7 @@ pub loop-i-init : goal.loop-i-init
 loop-i-init c = search (rules, running_start)
 
 pub returns-then-not-between : goal.returns-then-not-between
-returns-then-not-between c = search (rules, running_stops)
+returns-then-not-between c = let r = search (rules, running_stops) in record { value = r.0; inside = r.1 }
 
 pub loop-i-preserved : goal.loop-i-preserved
 loop-i-preserved c = search (rules, running_next)
