@@ -10,11 +10,11 @@ pub loop-left-init : goal.loop-left-init
 loop-left-init c = writing_start _ _ _ c.requires
 
 pub end_line-end-requires : goal.end_line-end-requires
-end_line-end-requires c = (
-  omega arith,
-  blank_line_room c.args.at c.args.n c.args.out.now c.loop-left.left
-      c.loop-left.invariant c.loop-left-test.true,
-)
+end_line-end-requires c = record {
+  used_bound = omega arith;
+  used_in_bounds = blank_line_room c.args.at c.args.n c.args.out.now c.loop-left.left
+      c.loop-left.invariant c.loop-left-test.true;
+}
 
 pub loop-left-preserved : goal.loop-left-preserved
 loop-left-preserved c = blank_line_written c.args.at c.args.n c.args.out.now c.loop-left.left c.loop-left.invariant c.loop-left-test.true c.end_line-end.ensures.value c.end_line-end.ensures.out_after

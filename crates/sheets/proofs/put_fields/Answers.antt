@@ -2,7 +2,6 @@
 -- each. The measure: the cells left.
 -- Assumes nothing.
 use native.Mathlib.Omega.{arith}
-use Prim.Native.Nat.{◌-◌}
 use Rattle.sheets.proofs.Putting.{field_room, fields-next, fields_end}
 use Rattle.printout.proofs.Writing.{writing_start, writing-length}
 use Rattle.sheets.proofs.put_fields.Goals as goal
@@ -22,7 +21,7 @@ loop-i-preserved c = (
     omega arith,
     omega (
       arith,
-      (c.put_field-end.ensures.value, c.put_field-end.ensures.out_after, c.put_field-end.ensures.inside),
+      c.put_field-end.ensures.inside,
       c.loop-i.invariant.1,
     ),
   ),

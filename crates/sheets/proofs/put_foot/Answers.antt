@@ -7,11 +7,11 @@ use Rattle.printout.specs.Decimal.{decimal}
 use Rattle.sheets.proofs.put_foot.Goals as goal
 
 pub put_number-end-requires : goal.put_number-end-requires
-put_number-end-requires c = (
-  c.requires.number_bound,
-  part_room (foot_line c.args.number) (field_of (decimal c.args.number)) (rest_of 12)
-      (foot_parts c.args.number c.requires.number_bound) c.args.at c.args.out.now c.requires.number_in_bounds,
-)
+put_number-end-requires c = record {
+  x_bound = c.requires.number_bound;
+  x_in_bounds = part_room (foot_line c.args.number) (field_of (decimal c.args.number)) (rest_of 12)
+      (foot_parts c.args.number c.requires.number_bound) c.args.at c.args.out.now c.requires.number_in_bounds;
+}
 
 pub end_line-requires : goal.end_line-requires
 end_line-requires c = record {

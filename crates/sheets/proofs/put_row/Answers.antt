@@ -5,10 +5,10 @@ use Rattle.sheets.proofs.Putting.{row_fields_room, row-rest-room, row-line-writt
 use Rattle.sheets.proofs.put_row.Goals as goal
 
 pub put_fields-end-requires : goal.put_fields-end-requires
-put_fields-end-requires c = (
-  c.requires.kinds_len_bound.1,
-  row_fields_room c.args.kinds.now c.args.row.now c.args.at c.args.out.now c.requires.row_in_bounds,
-)
+put_fields-end-requires c = record {
+  kinds_in_bounds = c.requires.kinds_len_bound.1;
+  row_in_bounds = row_fields_room c.args.kinds.now c.args.row.now c.args.at c.args.out.now c.requires.row_in_bounds;
+}
 
 pub end_line-requires : goal.end_line-requires
 end_line-requires c = record {

@@ -17,15 +17,15 @@ pub slice_bounds-put_row-end : goal.slice_bounds-put_row-end
 slice_bounds-put_row-end c = next_inside _ _ c.args.cells.now c.loop-left.left c.loop-left-test.true c.loop-left.invariant.1
 
 pub put_row-end-requires : goal.put_row-end-requires
-put_row-end-requires c = (
-  (
+put_row-end-requires c = record {
+  kinds_len_bound = (
     c.requires.kinds_len_bound.0,
     le_of_eq (sym (part_length _ c.loop-left.from c.args.cells.now c.loop-left.left c.loop-left-test.true c.loop-left.invariant.1)),
-  ),
-  row_room c.args.kinds.now c.args.cells.now c.loop-left.from c.loop-left.left c.loop-left-test.true
+  );
+  row_in_bounds = row_room c.args.kinds.now c.args.cells.now c.loop-left.from c.loop-left.left c.loop-left-test.true
       c.args.at
-      _ c.args.out.now c.loop-left.invariant.0,
-)
+      _ c.args.out.now c.loop-left.invariant.0;
+}
 
 pub loop-left-preserved : goal.loop-left-preserved
 loop-left-preserved c = (

@@ -23,22 +23,22 @@ overflow_mul-from c = omega (
 )
 
 pub put_head-head-requires : goal.put_head-head-requires
-put_head-head-requires c = (
-  c.requires.fit_to_print.few_rows,
-  head_room c.args.serial c.args.rows c.args.kinds.now c.args.cells.now c.args.number c.args.out.now (omega arith) c.requires.fit_to_print
-      c.requires.le_number.0 c.requires.le_number.1 c.requires.in_bounds c.shown-n.ensures,
-)
+put_head-head-requires c = record {
+  rows_bound = c.requires.fit_to_print.few_rows;
+  rows_in_bounds = head_room c.args.serial c.args.rows c.args.kinds.now c.args.cells.now c.args.number c.args.out.now (omega arith) c.requires.fit_to_print
+      c.requires.le_number.0 c.requires.le_number.1 c.requires.in_bounds c.shown-n.ensures;
+}
 
 pub put_rows-lines-requires : goal.put_rows-lines-requires
-put_rows-lines-requires c = (
-  (
+put_rows-lines-requires c = record {
+  kinds_len_bound = (
     c.requires.fit_to_print.few_items,
     part-inside c.args.rows c.args.kinds.now c.args.cells.now
         c.args.number c.requires.fit_to_print c.requires.le_number.0 c.requires.le_number.1 _ c.shown-n.ensures,
-  ),
-  lines-room c.args.serial c.args.rows c.args.kinds.now c.args.cells.now c.args.number c.args.out.now (omega arith) c.requires.fit_to_print c.requires.le_number.0 c.requires.le_number.1
-      c.requires.in_bounds c.shown-n.ensures c.put_head-head.ensures.value c.put_head-head.ensures.out_after,
-)
+  );
+  cells_in_bounds = lines-room c.args.serial c.args.rows c.args.kinds.now c.args.cells.now c.args.number c.args.out.now (omega arith) c.requires.fit_to_print c.requires.le_number.0 c.requires.le_number.1
+      c.requires.in_bounds c.shown-n.ensures c.put_head-head.ensures.value c.put_head-head.ensures.out_after;
+}
 
 pub put_blank_lines-foot-requires : goal.put_blank_lines-foot-requires
 put_blank_lines-foot-requires c = blank_room c.args.serial c.args.rows c.args.kinds.now c.args.cells.now c.args.number c.args.out.now (omega arith) c.requires.fit_to_print c.requires.le_number.0 c.requires.le_number.1
