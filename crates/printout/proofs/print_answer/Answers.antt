@@ -5,7 +5,8 @@ use Rattle.printout.proofs.Texts.{answer_not_fit, answer-fit, answer-none, lines
 use Rattle.printout.proofs.print_answer.Goals as goal
 
 pub returns-then-not-is_fit : goal.returns-then-not-is_fit
-returns-then-not-is_fit c = let r = answer_not_fit c.args.serial _ _ _ c.args.out.now c.is_fit.ensures c.if-not-is_fit.true in
+returns-then-not-is_fit c = let r = answer_not_fit c.args.serial _ _ _ c.args.out.now c.is_fit.ensures
+    c.if-not-is_fit.true in
     record { value = r.0; out_after = r.1 }
 
 pub rows_length-requires : goal.rows_length-requires
@@ -32,6 +33,7 @@ put_rows-requires c = record {
 }
 
 pub returns : goal.returns
-returns c = let r = answer-written c.args.serial _ _ _ c.args.out.now c.is_fit.ensures c.if-not-is_fit.false c.head_length.ensures.value c.rows_length.ensures.value
+returns c = let r = answer-written c.args.serial _ _ _ c.args.out.now c.is_fit.ensures c.if-not-is_fit.false
+    c.head_length.ensures.value c.rows_length.ensures.value
     (omega (arith, c.if-out-size.false)) c.put_head-at.ensures.value c.put_head-at.ensures.out_after
     c.put_rows.ensures.value c.put_rows.ensures.out_after in record { value = r.0; out_after = r.1 }

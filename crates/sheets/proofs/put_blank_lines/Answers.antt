@@ -17,10 +17,13 @@ end_line-end-requires c = record {
 }
 
 pub loop-left-preserved : goal.loop-left-preserved
-loop-left-preserved c = blank_line_written c.args.at c.args.n c.args.out.now c.loop-left.left c.loop-left.invariant c.loop-left-test.true c.end_line-end.ensures.value c.end_line-end.ensures.out_after
+loop-left-preserved c = blank_line_written c.args.at c.args.n c.args.out.now c.loop-left.left c.loop-left.invariant
+    c.loop-left-test.true c.end_line-end.ensures.value c.end_line-end.ensures.out_after
 
 pub shape_of-out : goal.shape_of-out
 shape_of-out c = writing-length c.args.at _ c.args.out.now c.loop-left.invariant
 
 pub returns : goal.returns
-returns c = let r = blank_lines_written c.args.at c.args.n c.args.out.now c.loop-left.left c.loop-left.invariant (omega (arith, c.loop-left-test.false)) in record { value = r.0; out_after = r.1 }
+returns c = let r = blank_lines_written c.args.at c.args.n c.args.out.now c.loop-left.left c.loop-left.invariant (omega
+    (arith, c.loop-left-test.false)) in
+    record { value = r.0; out_after = r.1 }
