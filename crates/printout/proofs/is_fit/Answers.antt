@@ -24,13 +24,17 @@ overflow_mul-rows c = cells_fit (omega (arith, c.if-rows-gt999999999999.false)) 
 
 pub returns-then-cells-rows : goal.returns-then-cells-rows
 returns-then-cells-rows c = few-cells _ _ _ (omega (arith, c.if-w-lt1.false)) (omega (arith, c.if-w-gt8.false))
-    c.all_known.ensures c.if-not-all_known.false (omega (arith, c.if-rows-gt999999999999.false)) (omega (arith,
-        c.if-cells-rows.true))
+    c.all_known.ensures c.if-not-all_known.false (omega (arith, c.if-rows-gt999999999999.false)) (omega (
+      arith,
+      c.if-cells-rows.true,
+    ))
 
 pub rows_fit-requires : goal.rows_fit-requires
 rows_fit-requires c = c.if-cells-rows.false
 
 pub returns : goal.returns
 returns c = all_tested _ _ _ (omega (arith, c.if-w-lt1.false)) (omega (arith, c.if-w-gt8.false))
-    c.all_known.ensures c.if-not-all_known.false (omega (arith, c.if-rows-gt999999999999.false)) (omega (arith,
-        c.if-cells-rows.false)) c.rows_fit.ensures
+    c.all_known.ensures c.if-not-all_known.false (omega (arith, c.if-rows-gt999999999999.false)) (omega (
+      arith,
+      c.if-cells-rows.false,
+    )) c.rows_fit.ensures

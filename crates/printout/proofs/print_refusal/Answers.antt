@@ -25,4 +25,4 @@ returns c = let r = refusal-written c.args.words.now c.args.number c.args.out.no
     c.decimal_length.ensures.value (omega (arith, c.if-out-n.false))
     c.put_words-at.ensures.value
     c.put_words-at.ensures.out_after c.put_byte.ensures.value c.put_byte.ensures.out_after in
-        record { value = r.0; out_after = r.1 }
+    record { value = r.0; out_after = r.1 }

@@ -24,6 +24,6 @@ end_line-requires c = record {
 pub returns : goal.returns
 returns c = let r = line-written (foot_line c.args.number) (field_of (decimal c.args.number)) (rest_of 12) (foot_parts
     c.args.number c.requires.number_bound) c.args.at c.args.out.now c.requires.number_in_bounds
-        c.put_number-end.ensures.value c.put_number-end.ensures.out_after c.end_line.ensures.value
-        c.end_line.ensures.out_after in
-        record { value = r.0; out_after = r.1 }
+    c.put_number-end.ensures.value c.put_number-end.ensures.out_after c.end_line.ensures.value
+    c.end_line.ensures.out_after in
+    record { value = r.0; out_after = r.1 }

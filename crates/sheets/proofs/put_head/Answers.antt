@@ -23,12 +23,12 @@ end_line-requires c = record {
   used_bound = omega arith;
   used_in_bounds = head-rest-room c.args.serial c.args.rows c.requires.rows_bound c.index.ensures
       c.args.out.now c.requires.rows_in_bounds c.put_number-first.ensures.value c.put_number-first.ensures.out_after
-          c.put_number-end.ensures.value c.put_number-end.ensures.out_after;
+      c.put_number-end.ensures.value c.put_number-end.ensures.out_after;
 }
 
 pub returns : goal.returns
 returns c = let r = head-written c.args.serial c.args.rows c.requires.rows_bound c.index.ensures c.args.out.now
     c.requires.rows_in_bounds c.put_number-first.ensures.value c.put_number-first.ensures.out_after
     c.put_number-end.ensures.value c.put_number-end.ensures.out_after c.end_line.ensures.value
-        c.end_line.ensures.out_after in
-        record { value = r.0; out_after = r.1 }
+    c.end_line.ensures.out_after in
+    record { value = r.0; out_after = r.1 }

@@ -20,5 +20,5 @@ put_decimal-requires c = text_room (decimal c.args.x) c.args.out.now c.args.at c
 pub returns : goal.returns
 returns c = let r = field-written (decimal c.args.x) c.args.out.now c.args.at c.requires.x_in_bounds
     c.decimal_length-digits.ensures.value c.put_blanks-end.ensures.value c.put_blanks-end.ensures.out_after
-        c.put_decimal.ensures.value c.put_decimal.ensures.out_after in
-        record { value = r.0; out_after = r.1 }
+    c.put_decimal.ensures.value c.put_decimal.ensures.out_after in
+    record { value = r.0; out_after = r.1 }

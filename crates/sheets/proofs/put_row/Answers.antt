@@ -20,5 +20,5 @@ end_line-requires c = record {
 pub returns : goal.returns
 returns c = let r = row-line-written c.args.kinds.now c.args.row.now c.args.at c.args.out.now
     c.requires.row_in_bounds c.put_fields-end.ensures.value c.put_fields-end.ensures.out_after
-        c.put_fields-end.ensures.inside c.end_line.ensures.value c.end_line.ensures.out_after in
-        record { value = r.0; out_after = r.1 }
+    c.put_fields-end.ensures.inside c.end_line.ensures.value c.end_line.ensures.out_after in
+    record { value = r.0; out_after = r.1 }

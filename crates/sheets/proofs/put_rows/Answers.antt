@@ -43,4 +43,4 @@ shape_of-out c = writing-length c.args.at _ c.args.out.now c.loop-left.invariant
 pub returns : goal.returns
 returns c = let r = rows_written c.args.kinds.now c.args.cells.now c.loop-left.from c.loop-left.left
     c.args.at _ c.args.out.now c.loop-left.invariant.0 (omega (arith, c.loop-left-test.false)) in
-        record { value = r.0; out_after = r.1 }
+    record { value = r.0; out_after = r.1 }

@@ -34,12 +34,16 @@ put_sheet-requires c = record {
       (arith, c.if-out-lt-SHEET.false));
   le_number = (
     number-some c.args.serial c.args.rows c.args.kinds.now
-        c.args.cells.now c.args.number c.args.out.now c.is_fit.ensures c.if-not-is_fit.false (omega (arith,
-            c.if-out-lt-SHEET.false)) c.if-number-eq0.false c.sheets.ensures (omega
+        c.args.cells.now c.args.number c.args.out.now c.is_fit.ensures c.if-not-is_fit.false (omega (
+          arith,
+          c.if-out-lt-SHEET.false,
+        )) c.if-number-eq0.false c.sheets.ensures (omega
         (arith, c.if-sheets-number.false)),
     number-last c.args.serial c.args.rows c.args.kinds.now
-        c.args.cells.now c.args.number c.args.out.now c.is_fit.ensures c.if-not-is_fit.false (omega (arith,
-            c.if-out-lt-SHEET.false)) c.if-number-eq0.false c.sheets.ensures (omega
+        c.args.cells.now c.args.number c.args.out.now c.is_fit.ensures c.if-not-is_fit.false (omega (
+          arith,
+          c.if-out-lt-SHEET.false,
+        )) c.if-number-eq0.false c.sheets.ensures (omega
         (arith, c.if-sheets-number.false)),
   );
   in_bounds = omega (arith, c.if-out-lt-SHEET.false);
