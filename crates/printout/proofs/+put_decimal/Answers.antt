@@ -6,30 +6,32 @@ use Rattle.printout.proofs.Writing.{small_written, tenth-room, last-room, large-
 use Rattle.printout.proofs.+put_decimal.Goals as goal
 
 pub put_byte-requires : goal.put_byte-requires
-put_byte-requires c = small_room c.args.x c.args.at c.args.out.now c.requires
+put_byte-requires t c = small_room c.args.x c.args.at c.args.out.now c.requires
     (omega (arith, c.if-x-lt10.true))
 
 pub returns-then-x-lt10 : goal.returns-then-x-lt10
-returns-then-x-lt10 c = small_written c.args.x c.args.at _ (omega (arith, c.if-x-lt10.true))
+returns-then-x-lt10 t c = let r = small_written c.args.x c.args.at _ (omega (arith, c.if-x-lt10.true))
     c.digit.ensures
-    c.put_byte.ensures.value c.put_byte.ensures.out_after
+    c.put_byte.ensures.value c.put_byte.ensures.out_after in
+    record { value = r.0; out_after = r.1 }
 
 pub put_decimal-end-requires : goal.put_decimal-end-requires
-put_decimal-end-requires c = (
-  omega (arith, (omega arith), c.if-x-lt10.false),
+put_decimal-end-requires t c = (
+  omega (arith, c.if-x-lt10.false),
   tenth-room c.args.x c.args.at c.args.out.now (omega (arith, c.if-x-lt10.false))
       c.requires,
 )
 
 pub digit-requires-2 : goal.digit-requires-2
-digit-requires-2 c = omega arith
+digit-requires-2 t c = omega arith
 
 pub put_byte-requires-2 : goal.put_byte-requires-2
-put_byte-requires-2 c = last-room c.args.x c.args.at c.args.out.now (omega (arith, c.if-x-lt10.false))
+put_byte-requires-2 t c = last-room c.args.x c.args.at c.args.out.now (omega (arith, c.if-x-lt10.false))
     c.requires
     c.put_decimal-end.ensures.value c.put_decimal-end.ensures.out_after
 
 pub returns : goal.returns
-returns c = let r = large-written c.args.x c.args.at _ (omega (arith, c.if-x-lt10.false)) c.requires
+returns t c = let r = large-written c.args.x c.args.at _ (omega (arith, c.if-x-lt10.false)) c.requires
     c.put_decimal-end.ensures.value c.put_decimal-end.ensures.out_after
-    c.digit-2.ensures c.put_byte-2.ensures.value c.put_byte-2.ensures.out_after in record { value = r.0; out_after = r.1 }
+    c.digit-2.ensures c.put_byte-2.ensures.value c.put_byte-2.ensures.out_after in
+    record { value = r.0; out_after = r.1 }

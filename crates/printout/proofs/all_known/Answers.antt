@@ -1,7 +1,6 @@
 -- `printout::all_known` meets its contract. The invariant: the kinds before i are known (`KnownSoFar`). The measure:
 -- the kinds left.
 -- Assumes nothing.
-use Prim.Native.Nat.{◌-◌}
 use native.Mathlib.Omega.{arith}
 use Rattle.printout.proofs.Fit.{known_start, known-no, known_next, known_end}
 use Rattle.printout.proofs.all_known.Goals as goal

@@ -6,8 +6,9 @@ use Rattle.printout.proofs.Texts.{refusal_none, words-room, line-room, refusal-w
 use Rattle.printout.proofs.print_refusal.Goals as goal
 
 pub returns-then-out-n : goal.returns-then-out-n
-returns-then-out-n c = refusal_none c.args.words.now c.args.number c.args.out.now
-    c.decimal_length.ensures.value (omega (arith, c.if-out-n.true))
+returns-then-out-n c = let r = refusal_none c.args.words.now c.args.number c.args.out.now
+    c.decimal_length.ensures.value (omega (arith, c.if-out-n.true)) in
+    record { value = r.0; out_after = r.1 }
 
 pub put_words-at-requires : goal.put_words-at-requires
 put_words-at-requires c = words-room c.args.words.now c.args.number c.args.out.now
@@ -23,4 +24,5 @@ pub returns : goal.returns
 returns c = let r = refusal-written c.args.words.now c.args.number c.args.out.now
     c.decimal_length.ensures.value (omega (arith, c.if-out-n.false))
     c.put_words-at.ensures.value
-    c.put_words-at.ensures.out_after c.put_byte.ensures.value c.put_byte.ensures.out_after in record { value = r.0; out_after = r.1 }
+    c.put_words-at.ensures.out_after c.put_byte.ensures.value c.put_byte.ensures.out_after in
+    record { value = r.0; out_after = r.1 }

@@ -5,7 +5,10 @@ use native.Mathlib.Omega.{arith}
 use Rattle.printout.proofs.print_text.Goals as goal
 
 pub returns-then-out-text : goal.returns-then-out-text
-returns-then-out-text c = none_printed _ _ (omega (arith, c.if-out-text.true))
+returns-then-out-text c = let r = none_printed c.args.text.now c.args.out.now (omega (arith, c.if-out-text.true)) in
+    record { value = r.0; out_after = r.1 }
 
 pub returns : goal.returns
-returns c = let r = whole_printed _ _ (omega (arith, c.if-out-text.false)) (c.put_text.ensures.value, c.put_text.ensures.out_after) in record { value = r.0; out_after = r.1 }
+returns c = let r = whole_printed c.args.text.now c.args.out.now (omega (arith, c.if-out-text.false))
+    (c.put_text.ensures.value, c.put_text.ensures.out_after) in
+    record { value = r.0; out_after = r.1 }

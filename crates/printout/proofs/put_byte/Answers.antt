@@ -4,5 +4,5 @@ use borrow.Author.Rules.{rules}
 use Rattle.printout.proofs.Writing.{written_byte}
 use Rattle.printout.proofs.put_byte.Goals as goal
 
-pub returns : goal.returns
-returns c = let r = search (rules, written_byte) in record { value = r.0; out_after = r.1 }
+pub returns-clause-out_after : goal.returns-clause-out_after
+returns-clause-out_after c = search (rules, written_byte)

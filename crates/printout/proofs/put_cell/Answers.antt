@@ -8,17 +8,15 @@ put_byte-requires c = missing_room c.args.kind c.args.cell c.args.at c.args.out.
     c.missing.ensures c.if-missing.true
 
 pub returns-then-missing : goal.returns-then-missing
-returns-then-missing c = let put = (c.put_byte.ensures.value, c.put_byte.ensures.out_after) in
-    missing_written c.args.kind c.args.cell c.args.at c.args.out.now c.requires
-    c.missing.ensures c.if-missing.true
-    put.0 put.1
+returns-then-missing c = let r = missing_written c.args.kind c.args.cell c.args.at c.args.out.now c.requires
+    c.missing.ensures c.if-missing.true c.put_byte.ensures.value c.put_byte.ensures.out_after in
+    record { value = r.0; out_after = r.1 }
 
 pub put_value-requires : goal.put_value-requires
 put_value-requires c = value_room c.args.kind c.args.cell c.args.at c.args.out.now c.requires
     c.missing.ensures c.if-missing.false
 
 pub returns : goal.returns
-returns c = let put = (c.put_value.ensures.value, c.put_value.ensures.out_after) in
-    let r = value_written c.args.kind c.args.cell c.args.at c.args.out.now c.requires
-    c.missing.ensures c.if-missing.false
-    put.0 put.1 in record { value = r.0; out_after = r.1 }
+returns c = let r = value_written c.args.kind c.args.cell c.args.at c.args.out.now c.requires
+    c.missing.ensures c.if-missing.false c.put_value.ensures.value c.put_value.ensures.out_after in
+    record { value = r.0; out_after = r.1 }

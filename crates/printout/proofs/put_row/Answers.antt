@@ -1,7 +1,6 @@
 -- `printout::put_row` meets its contract. The invariant: the line is written before cell i (`Writing`). The measure:
 -- the cells left.
 -- Assumes nothing.
-use Prim.Native.Nat.{◌-◌}
 use native.Mathlib.Omega.{arith}
 use Rattle.printout.proofs.Rows.{cell_room, mark-room, mark-written, row_end}
 use Rattle.printout.proofs.Writing.{writing_start, writing-length}

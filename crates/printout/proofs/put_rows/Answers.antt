@@ -17,12 +17,12 @@ slice_bounds-put_row-end c = next_inside _ _ c.args.cells.now c.loop-left.left c
     c.loop-left.invariant.1
 
 pub put_row-end-requires : goal.put_row-end-requires
-put_row-end-requires c = (
-  le_of_eq (sym (part_length _ c.loop-left.from c.args.cells.now c.loop-left.left
-      c.loop-left-test.true c.loop-left.invariant.1)),
-  row_room c.args.kinds.now c.args.cells.now c.loop-left.from c.loop-left.left
-      c.loop-left-test.true c.args.at _ c.args.out.now c.loop-left.invariant.0,
-)
+put_row-end-requires c = record {
+  kinds_in_bounds = le_of_eq (sym (part_length _ c.loop-left.from c.args.cells.now c.loop-left.left
+      c.loop-left-test.true c.loop-left.invariant.1));
+  row_in_bounds = row_room c.args.kinds.now c.args.cells.now c.loop-left.from c.loop-left.left
+      c.loop-left-test.true c.args.at _ c.args.out.now c.loop-left.invariant.0;
+}
 
 pub loop-left-preserved : goal.loop-left-preserved
 loop-left-preserved c = (
@@ -38,4 +38,5 @@ shape_of-out c = writing-length c.args.at _ c.args.out.now c.loop-left.invariant
 
 pub returns : goal.returns
 returns c = let r = rows_written c.args.kinds.now c.args.cells.now c.loop-left.from c.loop-left.left
-    c.args.at _ c.args.out.now c.loop-left.invariant.0 (omega (arith, c.loop-left-test.false)) in record { value = r.0; out_after = r.1 }
+    c.args.at _ c.args.out.now c.loop-left.invariant.0 (omega (arith, c.loop-left-test.false)) in
+    record { value = r.0; out_after = r.1 }

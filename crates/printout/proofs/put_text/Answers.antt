@@ -2,7 +2,6 @@
 -- the bytes left.
 -- Assumes nothing.
 use mathlib.Core.Path.{refl}
-use Prim.Native.Nat.{◌-◌}
 use native.Mathlib.Omega.{arith}
 use Rattle.printout.proofs.Writing.{writing_start, writing-length, text_room, text_next, text_end}
 use Rattle.printout.proofs.put_text.Goals as goal

@@ -14,10 +14,11 @@ put_decimal-requires c = digits-room c.args.kind c.args.cell c.args.at c.args.ou
     c.put_byte-digits.ensures.out_after
 
 pub returns-then-has_minus : goal.returns-then-has_minus
-returns-then-has_minus c = digits-written c.args.kind c.args.cell c.args.at c.args.out.now c.requires
+returns-then-has_minus c = let r = digits-written c.args.kind c.args.cell c.args.at c.args.out.now c.requires
     c.has_minus.ensures c.index.ensures c.if-has_minus.true
     c.put_byte-digits.ensures.value c.put_byte-digits.ensures.out_after
-    c.put_decimal.ensures.value c.put_decimal.ensures.out_after
+    c.put_decimal.ensures.value c.put_decimal.ensures.out_after in
+    record { value = r.0; out_after = r.1 }
 
 pub put_decimal-requires-2 : goal.put_decimal-requires-2
 put_decimal-requires-2 c = plain-room c.args.kind c.args.cell c.args.at c.args.out.now c.requires

@@ -1,8 +1,6 @@
 -- `printout::row_fits` meets its contract. The invariant: the cells before i are in their kinds' ranges
 -- (`FitSoFar`). The measure: the cells left.
 -- Assumes nothing.
-use Prim.Native.Nat.{◌-◌}
-use borrow.Author.Tests.{not-true, not-false}
 use Rattle.printout.proofs.Fit.{fit_start, fit-no, fit_next, fit_end}
 use Rattle.printout.proofs.row_fits.Goals as goal
 
@@ -11,11 +9,11 @@ loop-i-init c = fit_start _ _
 
 pub returns-then-not-in_range : goal.returns-then-not-in_range
 returns-then-not-in_range c = fit-no c.args.kinds.now c.args.row.now c.loop-i.invariant c.loop-i-test.true
-    c.requires c.in_range.ensures (not-true _ c.if-not-in_range.true-raw)
+    c.requires c.in_range.ensures c.if-not-in_range.true
 
 pub loop-i-preserved : goal.loop-i-preserved
 loop-i-preserved c = fit_next c.args.kinds.now c.args.row.now c.loop-i.invariant c.loop-i-test.true
-    c.requires c.in_range.ensures (not-false _ c.if-not-in_range.false-raw)
+    c.requires c.in_range.ensures c.if-not-in_range.false
 
 pub returns : goal.returns
 returns c = fit_end c.args.kinds.now c.args.row.now c.loop-i.invariant c.loop-i-test.false

@@ -1,7 +1,6 @@
 -- `printout::row_length` meets its contract. The invariant: `n` counts the bytes before cell i (`RowCounted`). The
 -- measure: the cells left.
 -- Assumes nothing.
-use Prim.Native.Nat.{◌-◌}
 use Rattle.printout.proofs.Rows.{row_counted_start, row_counted_next, row_counted_end}
 use Rattle.printout.proofs.row_length.Goals as goal
 

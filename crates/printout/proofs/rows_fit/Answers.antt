@@ -3,7 +3,6 @@
 -- Assumes nothing.
 use mathlib.Core.Path.{sym}
 use native.Mathlib.Nat.{le_of_eq}
-use borrow.Author.Tests.{not-true, not-false}
 use native.Mathlib.Omega.{arith}
 use Rattle.printout.proofs.Rows.{rows_fit_start, rows-fit-no, rows-fit-next, rows_fit_end}
 use Rattle.printout.proofs.Rows.{next_inside, part_length}
@@ -22,11 +21,11 @@ row_fits-requires c = le_of_eq (sym (part_length _ c.loop-left.from c.args.cells
 
 pub returns-then-not-row_fits : goal.returns-then-not-row_fits
 returns-then-not-row_fits c = rows-fit-no c.args.kinds.now c.args.cells.now c.loop-left.invariant
-    c.loop-left-test.true c.row_fits.ensures (not-true _ c.if-not-row_fits.true-raw)
+    c.loop-left-test.true c.row_fits.ensures c.if-not-row_fits.true
 
 pub loop-left-preserved : goal.loop-left-preserved
 loop-left-preserved c = rows-fit-next c.args.kinds.now c.args.cells.now c.loop-left.invariant
-    c.loop-left-test.true c.row_fits.ensures (not-false _ c.if-not-row_fits.false-raw)
+    c.loop-left-test.true c.row_fits.ensures c.if-not-row_fits.false
 
 pub returns : goal.returns
 returns c = rows_fit_end c.args.kinds.now c.args.cells.now c.loop-left.invariant

@@ -4,8 +4,9 @@ use Rattle.printout.proofs.Decimal.{minus_counted, plain_counted}
 use Rattle.printout.proofs.value_length.Goals as goal
 
 pub returns-then-has_minus : goal.returns-then-has_minus
-returns-then-has_minus c = minus_counted c.args.kind c.args.cell c.has_minus.ensures
-    c.index.ensures c.if-has_minus.true c.decimal_length.ensures.value
+returns-then-has_minus c = let r = minus_counted c.args.kind c.args.cell c.has_minus.ensures
+    c.index.ensures c.if-has_minus.true c.decimal_length.ensures.value in
+    record { value = r.0; inside = r.1 }
 
 pub returns : goal.returns
 returns c = let r = plain_counted c.args.kind c.args.cell c.has_minus.ensures

@@ -14,10 +14,13 @@ put_byte-end-requires c = blank_room c.args.at c.args.n c.args.out.now c.loop-le
     c.loop-left-test.true
 
 pub loop-left-preserved : goal.loop-left-preserved
-loop-left-preserved c = blank_written c.args.at c.args.n c.args.out.now c.loop-left.left c.loop-left.invariant c.loop-left-test.true c.put_byte-end.ensures.value c.put_byte-end.ensures.out_after
+loop-left-preserved c = blank_written c.args.at c.args.n c.args.out.now c.loop-left.left c.loop-left.invariant
+    c.loop-left-test.true c.put_byte-end.ensures.value c.put_byte-end.ensures.out_after
 
 pub shape_of-out : goal.shape_of-out
 shape_of-out c = writing-length c.args.at _ c.args.out.now c.loop-left.invariant
 
 pub returns : goal.returns
-returns c = let r = blanks_written c.args.at c.args.n c.args.out.now c.loop-left.left c.loop-left.invariant (omega (arith, c.loop-left-test.false)) in record { value = r.0; out_after = r.1 }
+returns c = let r = blanks_written c.args.at c.args.n c.args.out.now c.loop-left.left c.loop-left.invariant (omega
+    (arith, c.loop-left-test.false)) in
+    record { value = r.0; out_after = r.1 }

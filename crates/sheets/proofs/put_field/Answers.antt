@@ -6,13 +6,17 @@ use Rattle.printout.specs.Decimal.{cell_text}
 use Rattle.sheets.proofs.put_field.Goals as goal
 
 pub put_blanks-end-requires : goal.put_blanks-end-requires
-put_blanks-end-requires c = blanks_room (cell_text c.args.kind c.args.cell) c.args.out.now c.args.at c.requires c.cell_length-n.ensures.value
+put_blanks-end-requires c = blanks_room (cell_text c.args.kind c.args.cell) c.args.out.now c.args.at c.requires
+    c.cell_length-n.ensures.value
 
 pub put_cell-requires : goal.put_cell-requires
-put_cell-requires c = text_room (cell_text c.args.kind c.args.cell) c.args.out.now c.args.at c.requires c.cell_length-n.ensures.value c.put_blanks-end.ensures.value c.put_blanks-end.ensures.out_after
+put_cell-requires c = text_room (cell_text c.args.kind c.args.cell) c.args.out.now c.args.at c.requires
+    c.cell_length-n.ensures.value c.put_blanks-end.ensures.value c.put_blanks-end.ensures.out_after
 
 pub returns : goal.returns
-returns c = let (p, w) = field-written (cell_text c.args.kind c.args.cell) c.args.out.now c.args.at c.requires c.cell_length-n.ensures.value c.put_blanks-end.ensures.value c.put_blanks-end.ensures.out_after c.put_cell.ensures.value c.put_cell.ensures.out_after in
+returns c = let (p, w) = field-written (cell_text c.args.kind c.args.cell) c.args.out.now c.args.at c.requires
+    c.cell_length-n.ensures.value c.put_blanks-end.ensures.value c.put_blanks-end.ensures.out_after
+    c.put_cell.ensures.value c.put_cell.ensures.out_after in
     record {
       value = p;
       out_after = w;

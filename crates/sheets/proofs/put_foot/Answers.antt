@@ -7,11 +7,11 @@ use Rattle.printout.specs.Decimal.{decimal}
 use Rattle.sheets.proofs.put_foot.Goals as goal
 
 pub put_number-end-requires : goal.put_number-end-requires
-put_number-end-requires c = (
-  c.requires.number_bound,
-  part_room (foot_line c.args.number) (field_of (decimal c.args.number)) (rest_of 12)
-      (foot_parts c.args.number c.requires.number_bound) c.args.at c.args.out.now c.requires.number_in_bounds,
-)
+put_number-end-requires c = record {
+  x_bound = c.requires.number_bound;
+  x_in_bounds = part_room (foot_line c.args.number) (field_of (decimal c.args.number)) (rest_of 12)
+      (foot_parts c.args.number c.requires.number_bound) c.args.at c.args.out.now c.requires.number_in_bounds;
+}
 
 pub end_line-requires : goal.end_line-requires
 end_line-requires c = record {
@@ -23,4 +23,7 @@ end_line-requires c = record {
 
 pub returns : goal.returns
 returns c = let r = line-written (foot_line c.args.number) (field_of (decimal c.args.number)) (rest_of 12) (foot_parts
-    c.args.number c.requires.number_bound) c.args.at c.args.out.now c.requires.number_in_bounds c.put_number-end.ensures.value c.put_number-end.ensures.out_after c.end_line.ensures.value c.end_line.ensures.out_after in record { value = r.0; out_after = r.1 }
+    c.args.number c.requires.number_bound) c.args.at c.args.out.now c.requires.number_in_bounds
+    c.put_number-end.ensures.value c.put_number-end.ensures.out_after c.end_line.ensures.value
+    c.end_line.ensures.out_after in
+    record { value = r.0; out_after = r.1 }
