@@ -5,4 +5,4 @@ use borrow.Author.Rules.{rules}
 use Rattle.scheme.proofs.computed.Goals as goal
 
 pub returns : goal.returns
-returns c = computed_of_fact c.before.args.t1 (search rules) c.at_most.ensures c.computed_sets.ensures
+returns c = computed_of_fact c.before.args.s (search rules) c.at_most-n.ensures c.computed_sets.ensures

@@ -2,7 +2,7 @@
 -- `next` is one round (`Repeating`); who is not in it did not join by the attributes `before` (`NotJoined`). The
 -- measure: 2 ^ OBJECTS less the set, which a round makes larger.
 -- Assumes nothing.
-use Prim.Native.Nat.{◌-◌, ◌^◌}
+use Prim.Native.Nat.{◌^◌}
 use mathlib.Core.Path.{ap}
 use mathlib.Core.Bool.{false≢true}
 use Rattle.sets.specs.Sets.{OBJECTS}
@@ -19,7 +19,7 @@ pub loop-next-init : goal.loop-next-init
 unfolding grown
 loop-next-init c = let a = c.args in
     let D = pairs a.n a.left.now a.right.now in (
-      repeating-start _ _ _ c.single_object-held.type-inv c.round-next.type-inv c.round-next.ensures
+      repeating-start _ _ _ c.single_object-held.type_inv c.round-next.type_inv c.round-next.ensures
           (ap (rounds D a.sets.now a.objects (2 ^ OBJECTS)) c.single_object-held.ensures),
       not_joined D a.sets.now a.objects _ c.round-next.ensures c.attributes_of-before.ensures,
     )
@@ -33,7 +33,7 @@ loop-next-smaller c = repeating-less _ _ _ c.loop-next.invariant.0 c.loop-next-t
 pub loop-next-preserved : goal.loop-next-preserved
 loop-next-preserved c = let a = c.args in (
   repeating-next _ _ _ c.loop-next.invariant.0 _ c.loop-next-test.true
-      c.round-next-in-loop-next.type-inv c.round-next-in-loop-next.ensures,
+      c.round-next-in-loop-next.type_inv c.round-next-in-loop-next.ensures,
   not_joined (pairs a.n a.left.now a.right.now) a.sets.now a.objects _ c.round-next-in-loop-next.ensures
       c.attributes_of-before-in-loop-next.ensures,
 )

@@ -1,14 +1,13 @@
 -- `scheme::grown_sets` meets its contract. The invariant: the array and the count are the sets grown from the objects
 -- below `k` (`MembersSoFar`). The measure: the objects left. Assumes nothing.
-use Prim.Native.Nat.{◌-◌}
 use mathlib.Core.Path.{refl, sym, ◌∙◌}
-use mathlib.Core.Logic.{⊎_elim}
 use native.Mathlib.Omega.{arith}
 use Rattle.reduction.specs.Packed.{padded}
 use Rattle.scheme.proofs.Loops.{members_start, members_room, members_with, members_past}
 use Rattle.scheme.proofs.Loops.{members_end}
 use Rattle.scheme.proofs.Packing.{listing_listed}
 use Rattle.scheme.proofs.grown_sets.Goals as goal
+use Rattle.scheme.proofs.grown_sets.Goals.{then-has_object, else-has_object}
 
 pub loop-k-init : goal.loop-k-init
 unfolding padded
@@ -24,7 +23,12 @@ pub overflow_add-count : goal.overflow_add-count
 overflow_add-count c = omega (arith, members_room c.loop-k.invariant c.loop-k-test.true)
 
 pub loop-k-preserved : goal.loop-k-preserved
-loop-k-preserved c = ⊎_elim (λ w. members_with c.loop-k.invariant c.loop-k-test.true w.1.result (sym c.has_object.ensures ∙ w.0.taken) w.1.ensures w.2 w.3) (λ w. members_past c.loop-k.invariant c.loop-k-test.true (sym c.has_object.ensures ∙ w.0.left) w.1 w.2) c.if-has_object.branch
+loop-k-preserved c = elim c.if-has_object.branch [
+  | then-has_object w ↦ members_with c.loop-k.invariant c.loop-k-test.true w.grow.result
+      (sym c.has_object.ensures ∙ w.if-has_object.true) w.grow.ensures w.out-is w.count-is
+  | else-has_object w ↦ members_past c.loop-k.invariant c.loop-k-test.true
+      (sym c.has_object.ensures ∙ w.if-has_object.false) w.out-is w.count-is
+]
 
 pub returns : goal.returns
 returns c = listing_listed (members_end c.loop-k.invariant c.loop-k-test.false)

@@ -1,6 +1,5 @@
 -- `scheme::is_one` meets its contract. The invariant: no place before `i` holds the set (`NoneSoFar`). The measure: the
 -- places left. Assumes nothing.
-use Prim.Native.Nat.{◌-◌}
 use mathlib.Core.Path.{sym}
 use borrow.Author.Tests.{eq-eqb, ne_eqb}
 use Rattle.scheme.proofs.Lists.{none_start, none_found, none-next, none_end}

@@ -1,7 +1,6 @@
 -- `scheme::some_cyclic` meets its contract. The invariant: no set before `i` has a cycle (`NoneSoFar`). The measure:
 -- the sets left.
 -- Assumes nothing.
-use Prim.Native.Nat.{◌-◌}
 use mathlib.Core.Path.{sym, ◌∙◌}
 use Rattle.scheme.proofs.Lists.{none_start, none_found, none-next, none_end}
 use Rattle.scheme.proofs.some_cyclic.Goals as goal

@@ -1,13 +1,11 @@
 -- `scheme::with_declared` meets its contract. The invariant: the array has the list with the declared sets before `i`
 -- added (`AddingSoFar`). The measure: the declared sets left. Assumes nothing.
-use Prim.Native.Nat.{◌-◌}
 use mathlib.Core.Path.{sym, ◌∙◌}
-use mathlib.Core.Logic.{⊎_elim}
 use native.Mathlib.Omega.{arith}
-use borrow.Author.Tests.{not-true, not-false}
 use Rattle.scheme.proofs.Packing.{listing_inside, listing_part}
 use Rattle.scheme.proofs.ListLoops.{adding_start, adding_room, adding_one, adding_none, adding_end}
 use Rattle.scheme.proofs.with_declared.Goals as goal
+use Rattle.scheme.proofs.with_declared.Goals.{then-not-is_one, else-not-is_one}
 
 pub loop-i-init : goal.loop-i-init
 loop-i-init c = adding_start c.args.list _ c.requires
@@ -28,7 +26,12 @@ pub overflow_add-count : goal.overflow_add-count
 overflow_add-count c = omega (arith, adding_room c.loop-i.invariant c.loop-i-test.true)
 
 pub loop-i-preserved : goal.loop-i-preserved
-loop-i-preserved c = ⊎_elim (λ w. adding_one c.loop-i.invariant c.loop-i-test.true (sym c.is_one.ensures ∙ not-true c.is_one.result w.0.taken) w.2 w.3) (λ w. adding_none c.loop-i.invariant c.loop-i-test.true (sym c.is_one.ensures ∙ not-false c.is_one.result w.0.left) w.1 w.2) c.if-not-is_one.branch
+loop-i-preserved c = elim c.if-not-is_one.branch [
+  | then-not-is_one w ↦ adding_one c.loop-i.invariant c.loop-i-test.true
+      (sym c.is_one.ensures ∙ w.if-not-is_one.true) w.out-is w.count-is
+  | else-not-is_one w ↦ adding_none c.loop-i.invariant c.loop-i-test.true
+      (sym c.is_one.ensures ∙ w.if-not-is_one.false) w.out-is w.count-is
+]
 
 pub returns : goal.returns
 returns c = adding_end c.loop-i.invariant c.loop-i-test.false
