@@ -4,7 +4,7 @@ use Rattle.records.specs.Records.{kind_of}
 use Rattle.records.proofs.kind_of.Goals as goal
 
 pub returns-in-OfBook : goal.returns-in-OfBook
-returns-in-OfBook c = c.kind_of_book.ensures ∙ ap kind_of (sym c.r-1.given.1)
+returns-in-OfBook c = c.kind_of_book.ensures ∙ ap kind_of (sym c.in-OfBook.is)
 
 pub returns-in-OfQuery : goal.returns-in-OfQuery
-returns-in-OfQuery c = c.kind_of_query.ensures ∙ ap kind_of (sym c.r-in-OfQuery-1.given.1)
+returns-in-OfQuery c = c.kind_of_query.ensures ∙ ap kind_of (sym c.in-OfQuery.is)

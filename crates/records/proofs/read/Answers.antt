@@ -2,7 +2,8 @@
 -- Assumes nothing.
 use Rattle.records.proofs.Records.{other_kind}
 use Rattle.records.proofs.Reader.{finds_nothing, finds_unknown, finds_kind, finds_short, finds_record}
-use mathlib.Core.Path.{sym, ◌∙◌}
+use mathlib.Core.Path.{ap, sym, ◌∙◌}
+use mathlib.Core.Bool.{not}
 use Prim.Native.Nat.{◌+◌, ◌-◌, ◌<◌}
 use native.Mathlib.Omega.{arith}
 use lib.ListN.{length}
@@ -24,7 +25,7 @@ pub book_record-requires : goal.book_record-requires
 book_record-requires c = (sym c.of_book.ensures ∙ c.if-of_book.true, omega arith)
 
 pub query_record-requires : goal.query_record-requires
-query_record-requires c = let kind = finds_kind _ _ c.is_kind.ensures c.if-not-is_kind.false-raw in
+query_record-requires c = let kind = finds_kind _ _ c.is_kind.ensures (ap not c.if-not-is_kind.false) in
     (other_kind _ kind (sym c.of_book.ensures ∙ c.if-of_book.false), omega arith)
 
 pub returns-then-of_book : goal.returns-then-of_book
