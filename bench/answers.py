@@ -1,6 +1,6 @@
 # Prints a table: for each case the unit's milliseconds for one query, SQLite's for the same tables and the equivalent
 # SQL, and the first divided by the second; then the unit's peak memory and the middle ratio. The rows of both are
-# compared: where they differ it says so and ends with status 1. Needs target/bin/unit, and python3 with sqlite3.
+# compared: where they differ it says so and ends with status 1. Needs crates/unit/out/unit, and python3 with sqlite3.
 #
 # The unit: the time of an input that has the query many times less that of one that has it once, divided by how many
 # more there are; each is the best of RUNS. Starting and reading the book are so taken off, printing (to /dev/null) is
@@ -9,7 +9,7 @@
 import os, random, signal, sqlite3, statistics, struct, subprocess, sys, tempfile, threading, time
 
 RUNS, LIMIT, INPUT = 5, 60, 65536
-UNIT = [os.path.abspath('target/bin/unit')]
+UNIT = [os.path.abspath('crates/unit/out/unit')]
 LIB = '/opt/rattle/on/x86_64/toolchain/lib'
 NAME, LENGTH, DATE, EQUAL, LESS = 0, 1, 3, 0, 2
 END = bytes([10])

@@ -4,11 +4,11 @@
 # take many passes; the rest is rows. `wide`, no rows: the slowest scheme of 64 objects that was found. A chain of 28 attributes,
 # each of which determines those beside it, again with closures of many passes; 27 objects along the chain, so that sets of
 # objects grow by one or two in a round; 37 objects of five attributes of the chain and one that nothing determines: they
-# share more in round after round, are asked again each time and never join. Builds nothing: run `rt check bench_read` first.
+# share more in round after round, are asked again each time and never join. Builds nothing: run `rt run` in crates/bench_read first.
 # The time of starting the program is taken off by a run on an empty book.
 cd "$(dirname "$0")/.." || exit 1
-program=target/bin/bench_read
-[ -x "$program" ] || { echo "no $program: run rt check bench_read"; exit 1; }
+program=crates/bench_read/out/bench_read
+[ -x "$program" ] || { echo "no $program: run rt run in crates/bench_read"; exit 1; }
 books=$(mktemp -d)
 python3 - "$books" <<'PY'
 import struct, sys

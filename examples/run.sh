@@ -1,7 +1,7 @@
 #!/bin/sh
 # Builds the examples of a host program, runs them on the paper's book and queries and on damaged input, and compares what
 # they print with what the unit must print, and sheets with those of examples/sheets.py. Needs the Rattle kit, a C compiler (cc, or the one that CC names) and python3.
-# Leaves nothing behind but rt's own target/. It is no part of the gate.
+# Leaves nothing behind but the out/ of each crate. It is no part of the gate.
 #   examples/run.sh [SEED]
 top=$(cd "$(dirname "$0")/.." && pwd) || exit 1
 cc=${CC:-cc}
@@ -12,8 +12,9 @@ folder=$(mktemp -d) || exit 1
 trap 'rm -rf "$folder"' EXIT
 book=$top/crates/unit/data/survey.book
 queries=$top/crates/unit/stdin
-archive=$top/target/staticlib/libhost.a
-(cd "$top" && rt staticlib host) >"$folder/log" 2>&1 || { tail -n 3 "$folder/log" >&2; exit 1; }
+archive=$folder/libhost.a
+(cd "$top/crates/host_c" && rt lib) >"$folder/log" 2>&1 && cp "$top/crates/host_c/out/libhost_c.a" "$archive" ||
+    { tail -n 20 "$folder/log" >&2; exit 1; }
 
 fail() { echo "$1" >&2; exit 1; }
 "$cc" -std=c11 -O2 -Wall -Wextra -Werror -I "$top/include" "$top/examples/host.c" "$archive" -o "$folder/host" &&

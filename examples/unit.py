@@ -1,11 +1,11 @@
 """Runs the unit on the books and queries of the program `trials`, and looks whether it refuses exactly those that
-crates/trials/stdout says are refused, with that number. Needs python3 and the unit that `rt check unit` builds. It is
-no part of the gate.
+crates/trials/stdout says are refused, with that number. Needs python3 and the unit that `rt run` builds in crates/unit. It
+is no part of the gate.
   python3 examples/unit.py [UNIT]"""
 import pathlib, re, subprocess, sys, tempfile
 
 top = pathlib.Path(__file__).resolve().parent.parent
-unit = sys.argv[1] if len(sys.argv) > 1 else str(top / "target/bin/unit")
+unit = sys.argv[1] if len(sys.argv) > 1 else str(top / "crates/unit/out/unit")
 trials = top / "crates/trials"
 source = (trials / "src/queries_trial.rt").read_text()
 said = dict(line.split(":", 1) for line in (trials / "stdout").read_text().splitlines() if ":" in line)

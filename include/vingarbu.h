@@ -1,8 +1,9 @@
 /* Vingarbu for a host program in C: a query answered over the bytes of a book, and the answer printed, as the unit does
  * or on sheets.
  *
- * What each function gives back and leaves in every lent cell is proved of its source, crates/host/src/lib.rt, for all
- * inputs; the definitions are in crates/host/specs. Nothing checks this header against that source.
+ * What each function gives back and leaves in every lent cell is proved of its source, crates/host_c/src/lib.rt over
+ * crates/host/src/lib.rt, for all inputs; the definitions are in crates/host/specs. Nothing checks this header against that
+ * source.
  *
  * A part of memory is a pointer and a length in elements. A pointer is never null, not even with length 0, and is aligned
  * for its elements; two parts of one call do not overlap where one of them is written. No function keeps a pointer,
@@ -11,7 +12,7 @@
  * Stack: the work memory of vingarbu_answer lies on the stack, 645 KB by the sizes of its arrays and a frame of about 1 KB
  * for each table of a join, 128 at most. Give the thread that calls it 1 MB.
  *
- * Link with the archive that `rt staticlib host` writes, target/staticlib/libhost.a (x86-64 Linux).
+ * Link with libhost.a (x86-64 Linux), a copy of crates/host_c/out/libhost_c.a, which `rt lib` writes in crates/host_c.
  */
 #ifndef VINGARBU_H
 #define VINGARBU_H

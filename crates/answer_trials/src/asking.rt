@@ -10,16 +10,16 @@ const CELLS: usize = 40;
 
 // Writes what a query over a book gives: the number, the count of rows, the serial number, the bytes read, and every
 // cell of the space.
-fn ask(book: &[u8], query: &[u8], serial: u32, space: &mut [u32]) {
+fn ask(rt: &impl Print, book: &[u8], query: &[u8], serial: u32, space: &mut [u32]) {
     let answer = answer::answer_bytes(book, query, serial, space);
-    text::put(b':');
-    text::number(answer.refusal as u64);
-    text::number(answer.rows as u64);
-    text::number(answer.serial as u64);
-    text::number(answer.read as u64);
-    text::word(b" /");
-    text::cells(space);
-    text::put(b'\n');
+    text::put(rt, b':');
+    text::number(rt, answer.refusal as u64);
+    text::number(rt, answer.rows as u64);
+    text::number(rt, answer.serial as u64);
+    text::number(rt, answer.read as u64);
+    text::word(rt, b" /");
+    text::cells(rt, space);
+    text::put(rt, b'\n');
 }
 
 // A number as a count.
@@ -30,7 +30,7 @@ fn count(n: u32) -> usize
 }
 
 // The query of a line over the book, in a space of cells that are 99 each.
-fn ask_numbers(book: &[u8], numbers: &[u32]) {
+fn ask_numbers(rt: &impl Print, book: &[u8], numbers: &[u32]) {
     if numbers.len() < 2 {
         return;
     }
@@ -42,6 +42,7 @@ fn ask_numbers(book: &[u8], numbers: &[u32]) {
     let mut query = [0u8; 2048];
     let n = reading::bytes_of(&numbers[2..], &mut query);
     ask(
+        rt,
         book,
         reading::first(&query, n),
         numbers[0],
@@ -57,7 +58,7 @@ fn first_byte(line: &[u8]) -> u8
 }
 
 // One line, without the line feed at its end: how many bytes the book has after it.
-fn show_line(line: &[u8], book: &mut [u8], held: usize) -> usize
+fn show_line(rt: &impl Print, line: &[u8], book: &mut [u8], held: usize) -> usize
     requires { held ≤ length book.old }
     ensures { result ≤ length book.new }
 {
@@ -65,23 +66,23 @@ fn show_line(line: &[u8], book: &mut [u8], held: usize) -> usize
     let mut numbers = [0u32; 2048];
     let n = reading::numbers_of(&line[colon..], &mut numbers);
     let found = scheme::first(&numbers, n);
-    text::word(reading::first(line, colon));
+    text::word(rt, reading::first(line, colon));
     if first_byte(line) == b'b' {
-        text::put(b'\n');
+        text::put(rt, b'\n');
         return reading::bytes_of(found, book);
     }
-    ask_numbers(reading::first(book, held), found);
+    ask_numbers(rt, reading::first(book, held), found);
     held
 }
 
 // Every line of the text.
-pub fn lines(s: &[u8]) {
+pub fn lines(rt: &impl Print, s: &[u8]) {
     let mut book = [0u8; 2048];
     let mut held: usize = 0;
     let mut from: usize = 0;
     while from < s.len() {
         let end = reading::find(s, from, b'\n');
-        held = show_line(&s[from..end], &mut book, held);
+        held = show_line(rt, &s[from..end], &mut book, held);
         from = end + 1;
     }
 }
@@ -93,19 +94,19 @@ const BOOK: [u8; 9] = [1, 0, 0, 2, 0, 1, 0, 0, 0];
 const QUERY: [u8; 4] = [7, 0, 0, 10];
 
 // A query of an item and kind 10 with zeros behind it, of 65,536 bytes and of one more; then these bytes as a book.
-pub fn at_the_bound() {
+pub fn at_the_bound(rt: &impl Print) {
     let mut out = [0u8; 65537];
     out[0] = 7;
     out[3] = 10;
     let mut space = [99u32; 2];
-    text::word(b"query of 65536 bytes");
-    ask(&BOOK, &out[..65536], 0, &mut space);
-    text::word(b"query of 65537 bytes");
-    ask(&BOOK, &out, 4294967295, &mut space);
-    text::word(b"book of 65536 bytes, kind 7 in front");
-    ask(&out[..65536], &QUERY, 0, &mut space);
-    text::word(b"book of 65537 bytes, kind 7 in front");
-    ask(&out, &QUERY, 4294967295, &mut space);
+    text::word(rt, b"query of 65536 bytes");
+    ask(rt, &BOOK, &out[..65536], 0, &mut space);
+    text::word(rt, b"query of 65537 bytes");
+    ask(rt, &BOOK, &out, 4294967295, &mut space);
+    text::word(rt, b"book of 65536 bytes, kind 7 in front");
+    ask(rt, &out[..65536], &QUERY, 0, &mut space);
+    text::word(rt, b"book of 65537 bytes, kind 7 in front");
+    ask(rt, &out, &QUERY, 4294967295, &mut space);
 }
 
 // The attributes 0 and 1, the objects 0, 1 and 2 of them, and two declared maximal objects, of 0 and 1 and of 0 and 2,
@@ -137,7 +138,7 @@ const IN_PRODUCTS: [u8; 29] = [
 
 // A variable whose connection has more rows than there is room for: objects 0 and 1 have a hundred rows each, and their
 // product is in the first maximal object. The row asked for is in the second.
-pub fn past_the_pools() {
+pub fn past_the_pools(rt: &impl Print) {
     let mut book = products();
     book[5234] = 4;
     book[5235] = 2;
@@ -154,6 +155,6 @@ pub fn past_the_pools() {
         at += 52;
     }
     let mut space = [99u32; 3];
-    text::word(b"connection that does not fit");
-    ask(&book, &IN_PRODUCTS, 0, &mut space);
+    text::word(rt, b"connection that does not fit");
+    ask(rt, &book, &IN_PRODUCTS, 0, &mut space);
 }

@@ -3,16 +3,15 @@
 #![tactic(auto)]
 
 mod asking;
+mod input;
 mod reading;
 mod text;
 
-use libc::STDIN_FILENO;
-
 // The lines of standard input, then the trials that are too long for a line.
-fn main() {
-    let mut input = io::large_buffer();
-    let n = io::read_full(STDIN_FILENO, &mut input);
-    asking::lines(&input[..n]);
-    asking::at_the_bound();
-    asking::past_the_pools();
+fn main(rt: HostRuntime) {
+    let mut input = [0u8; 65536];
+    let n = input::read_full(&rt, &mut input);
+    asking::lines(&rt, &input[..n]);
+    asking::at_the_bound(&rt);
+    asking::past_the_pools(&rt);
 }

@@ -1,5 +1,6 @@
-// The operations for a host program in C: include/vingarbu.h declares them. Each gives back a status; the rest of what
-// it gives goes into cells that the caller lends. A status other than 0 says that nothing was changed.
+// The operations for a host program: the crate host_c exports each to C under its name, and include/vingarbu.h declares
+// them. Each gives back a status; the rest of what it gives goes into cells that the caller lends. A status other than 0
+// says that nothing was changed.
 #![tactic(auto)]
 
 ghost use Rattle.std.specs.Prelude.{◌≡◌, ◌≤◌, length};
@@ -40,8 +41,7 @@ fn of_size(x: usize) -> u64
 
 // Answers a query over the bytes of a book. Four results: the number of the refusal or 0, the row count, the serial,
 // the bytes of the query that were read.
-#[unsafe(no_mangle)]
-pub extern "C" fn vingarbu_answer(
+pub fn vingarbu_answer(
     book: &[u8],
     query: &[u8],
     serial: u32,
@@ -83,13 +83,7 @@ fn report(p: Printed, results: &mut [u64]) -> u32
 
 // The value kinds of the items of a query over the bytes of a book, in the order of the items: none where one of the
 // two is refused for itself. One result: how many they are.
-#[unsafe(no_mangle)]
-pub extern "C" fn vingarbu_kinds(
-    book: &[u8],
-    query: &[u8],
-    kinds: &mut [u8],
-    results: &mut [u64],
-) -> u32
+pub fn vingarbu_kinds(book: &[u8], query: &[u8], kinds: &mut [u8], results: &mut [u64]) -> u32
     ensures value { result ≡ given_status (printed (item_kinds_of book.now query.now)
         kinds.old) results.old }
     ensures kinds_after { kinds.new ≡ given_bytes (after (item_kinds_of book.now query.now)
@@ -109,8 +103,7 @@ pub extern "C" fn vingarbu_kinds(
 
 // Prints an answer: its serial, so many rows of items of these value kinds, and their cells. One result: how many bytes
 // were printed.
-#[unsafe(no_mangle)]
-pub extern "C" fn vingarbu_print(
+pub fn vingarbu_print(
     serial: u32,
     rows: u64,
     kinds: &[u8],
@@ -160,8 +153,7 @@ fn print_words(number: u32, out: &mut [u8]) -> Printed
 }
 
 // A few words for the number of a refusal. One result: how many bytes they are.
-#[unsafe(no_mangle)]
-pub extern "C" fn vingarbu_refusal_text(number: u32, out: &mut [u8], results: &mut [u64]) -> u32
+pub fn vingarbu_refusal_text(number: u32, out: &mut [u8], results: &mut [u64]) -> u32
     ensures value { result ≡ given_status (words_printed number out.old) results.old }
     ensures out_after { out.new ≡ given_bytes (words_after number out.old) out.old
         results.old }
@@ -177,8 +169,7 @@ pub extern "C" fn vingarbu_refusal_text(number: u32, out: &mut [u8], results: &m
 
 // Prints one sheet of an answer, by its number from 1, in the first 3,880 bytes. One result: 0, or 18 where the sheet cannot
 // be printed, or 19 where the answer has no such sheet.
-#[unsafe(no_mangle)]
-pub extern "C" fn vingarbu_sheet(
+pub fn vingarbu_sheet(
     serial: u32,
     rows: u64,
     kinds: &[u8],
@@ -202,8 +193,7 @@ pub extern "C" fn vingarbu_sheet(
 }
 
 // How many sheets an answer of so many rows has.
-#[unsafe(no_mangle)]
-pub extern "C" fn vingarbu_sheets(rows: u64) -> u64
+pub fn vingarbu_sheets(rows: u64) -> u64
     ensures { result ≡ sheet_count rows }
 {
     sheets::sheets(rows as usize)

@@ -1,2 +1,3 @@
 -- The laws of `program`. Assumes nothing.
 pub mod Going
+mod Reading

@@ -2,20 +2,18 @@
 // lent to it. What is written is held to the file stdout, which examples/sheets.py writes from the request's words.
 #![tactic(auto)]
 
-use libc::STDOUT_FILENO;
-
 // What lent bytes hold before a call.
 const BEFORE: u8 = b'#';
 
 // Rows of one item, more than two sheets of them.
 const MOST: usize = 77;
 
-fn word(s: &[u8]) {
-    io::write_all(STDOUT_FILENO, s);
+fn word(rt: &impl Print, s: &[u8]) {
+    let _ = rt.write_all(s);
 }
 
-fn number(n: u64) {
-    io::print_decimal(STDOUT_FILENO, n);
+fn number(rt: &impl Print, n: u64) {
+    let _ = rt.print(n);
 }
 
 // Every lent byte as before a call.
@@ -40,36 +38,44 @@ fn is_as_before(out: &[u8]) -> bool {
 }
 
 // A sheet with a mark behind the last lent byte, or whether the bytes are as they were.
-fn show(refusal: u8, out: &[u8]) {
+fn show(rt: &impl Print, refusal: u8, out: &[u8]) {
     if refusal == 0 {
-        word(out);
-        word(b"|\n");
+        word(rt, out);
+        word(rt, b"|\n");
         return;
     }
     if is_as_before(out) {
-        word(b"as before\n");
+        word(rt, b"as before\n");
     } else {
-        word(b"changed\n");
+        word(rt, b"changed\n");
     }
 }
 
 // One call, in all bytes of `out`: the bytes are cleared, then what is called for, the number given back, and every lent
 // byte.
-fn sheet(serial: u32, rows: usize, kinds: &[u8], cells: &[u32], called: u64, out: &mut [u8]) {
+fn sheet(
+    rt: &impl Print,
+    serial: u32,
+    rows: usize,
+    kinds: &[u8],
+    cells: &[u32],
+    called: u64,
+    out: &mut [u8],
+) {
     clear(out);
-    word(b"rows ");
-    number(rows as u64);
-    word(b" items ");
-    number(kinds.len() as u64);
-    word(b" sheet ");
-    number(called);
-    word(b" bytes ");
-    number(out.len() as u64);
-    word(b": ");
+    word(rt, b"rows ");
+    number(rt, rows as u64);
+    word(rt, b" items ");
+    number(rt, kinds.len() as u64);
+    word(rt, b" sheet ");
+    number(rt, called);
+    word(rt, b" bytes ");
+    number(rt, out.len() as u64);
+    word(rt, b": ");
     let refusal = sheets::sheet(serial, rows, kinds, cells, called, out);
-    number(refusal as u64);
-    word(b"\n");
-    show(refusal, out);
+    number(rt, refusal as u64);
+    word(rt, b"\n");
+    show(rt, refusal, out);
 }
 
 // Names from 1000 on.
@@ -82,15 +88,15 @@ fn names() -> [u32; MOST] {
 }
 
 // The first calls, for sheets 0, 1 and so on, of so many rows of one name.
-fn all_sheets(rows: usize, calls: u64, out: &mut [u8]) {
+fn all_sheets(rt: &impl Print, rows: usize, calls: u64, out: &mut [u8]) {
     let cells = names();
     for called in 0..calls {
-        sheet(7, rows, &[0], &cells, called, out);
+        sheet(rt, 7, rows, &[0], &cells, called, out);
     }
 }
 
 // The widest cells of each kind, and a missing one of each.
-fn widest(out: &mut [u8]) {
+fn widest(rt: &impl Print, out: &mut [u8]) {
     let kinds = [0u8, 1, 2, 3, 0, 1, 2, 3];
     let cells = [
         4294967294u32,
@@ -102,76 +108,76 @@ fn widest(out: &mut [u8]) {
         4294967295,
         4294967295,
     ];
-    sheet(4294967295, 1, &kinds, &cells, 1, out);
+    sheet(rt, 4294967295, 1, &kinds, &cells, 1, out);
 }
 
 // An answer of angles, and the same with one out of range on the last sheet: it is refused whichever sheet is called for.
-fn angles(out: &mut [u8]) {
+fn angles(rt: &impl Print, out: &mut [u8]) {
     let mut cells = names();
-    sheet(7, 77, &[2], &cells, 1, out);
+    sheet(rt, 7, 77, &[2], &cells, 1, out);
     cells[76] = 36000;
-    sheet(7, 77, &[2], &cells, 1, out);
-    sheet(7, 77, &[2], &cells, 4, out);
+    sheet(rt, 7, 77, &[2], &cells, 1, out);
+    sheet(rt, 7, 77, &[2], &cells, 4, out);
 }
 
 // Answers with too few cells, of no item, of an unknown kind and of nine items.
-fn unfit(out: &mut [u8]) {
+fn unfit(rt: &impl Print, out: &mut [u8]) {
     let cells = [1u32, 2, 3, 4, 5, 6, 7, 8, 9];
-    sheet(7, 10, &[0], &cells, 1, out);
-    sheet(7, 1, &[], &cells, 1, out);
-    sheet(7, 1, &[4], &cells, 1, out);
-    sheet(7, 1, &[0, 0, 0, 0, 0, 0, 0, 0, 0], &cells, 1, out);
+    sheet(rt, 7, 10, &[0], &cells, 1, out);
+    sheet(rt, 7, 1, &[], &cells, 1, out);
+    sheet(rt, 7, 1, &[4], &cells, 1, out);
+    sheet(rt, 7, 1, &[0, 0, 0, 0, 0, 0, 0, 0, 0], &cells, 1, out);
 }
 
 // How many sheets an answer of so many rows has.
-fn count(rows: usize) {
-    word(b"rows ");
-    number(rows as u64);
-    word(b" sheets ");
-    number(sheets::sheets(rows));
-    word(b"\n");
+fn count(rt: &impl Print, rows: usize) {
+    word(rt, b"rows ");
+    number(rt, rows as u64);
+    word(rt, b" sheets ");
+    number(rt, sheets::sheets(rows));
+    word(rt, b"\n");
 }
 
-fn counts() {
-    count(0);
-    count(1);
-    count(38);
-    count(39);
-    count(76);
-    count(77);
-    count(999999999999);
+fn counts(rt: &impl Print) {
+    count(rt, 0);
+    count(rt, 1);
+    count(rt, 38);
+    count(rt, 39);
+    count(rt, 76);
+    count(rt, 77);
+    count(rt, 999999999999);
 }
 
 // No rows, one, and about as many as fill one sheet and two, in just the bytes of a sheet.
-fn by_rows() {
+fn by_rows(rt: &impl Print) {
     let mut out = [0u8; 3880];
-    all_sheets(0, 3, &mut out);
-    all_sheets(1, 3, &mut out);
-    all_sheets(38, 3, &mut out);
-    all_sheets(39, 4, &mut out);
-    all_sheets(76, 4, &mut out);
-    all_sheets(77, 5, &mut out);
+    all_sheets(rt, 0, 3, &mut out);
+    all_sheets(rt, 1, 3, &mut out);
+    all_sheets(rt, 38, 3, &mut out);
+    all_sheets(rt, 39, 4, &mut out);
+    all_sheets(rt, 76, 4, &mut out);
+    all_sheets(rt, 77, 5, &mut out);
 }
 
 // A byte less, whichever sheet is called for, and a byte more.
-fn by_bytes() {
+fn by_bytes(rt: &impl Print) {
     let mut less = [0u8; 3879];
-    all_sheets(1, 3, &mut less);
+    all_sheets(rt, 1, 3, &mut less);
     let mut more = [0u8; 3881];
-    all_sheets(1, 2, &mut more);
+    all_sheets(rt, 1, 2, &mut more);
 }
 
 // By the cells and the kinds.
-fn by_cells() {
+fn by_cells(rt: &impl Print) {
     let mut out = [0u8; 3880];
-    widest(&mut out);
-    angles(&mut out);
-    unfit(&mut out);
+    widest(rt, &mut out);
+    angles(rt, &mut out);
+    unfit(rt, &mut out);
 }
 
-fn main() {
-    by_rows();
-    by_bytes();
-    by_cells();
-    counts();
+fn main(rt: HostRuntime) {
+    by_rows(&rt);
+    by_bytes(&rt);
+    by_cells(&rt);
+    counts(&rt);
 }

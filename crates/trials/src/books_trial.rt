@@ -7,37 +7,37 @@ ghost use Rattle.std.specs.Prelude.{◌≤◌, length};
 use crate::{host_trial, queries_trial, text};
 
 // Reads a book and writes its name, and its refusal or how many rows and maximal objects it has.
-fn show_book(name: &[u8], bytes: &[u8]) {
+fn show_book(rt: &impl Print, name: &[u8], bytes: &[u8]) {
     let mut directory = [0u32; 2520];
     let found = book::read(bytes, &mut directory);
-    text::word(name);
+    text::word(rt, name);
     if found.refusal != 0 {
-        text::word(b": refused ");
-        text::number(found.refusal as u64);
+        text::word(rt, b": refused ");
+        text::number(rt, found.refusal as u64);
     } else {
-        text::word(b": rows ");
-        text::number(found.rows as u64);
-        text::word(b" maximal objects ");
-        text::number(found.maximals as u64);
+        text::word(rt, b": rows ");
+        text::number(rt, found.rows as u64);
+        text::word(rt, b" maximal objects ");
+        text::number(rt, found.maximals as u64);
     }
-    text::put(b'\n');
+    text::put(rt, b'\n');
 }
 
 // A book, or a query by the mark in front of its name.
-fn show(name: &[u8], bytes: &[u8]) {
+fn show(rt: &impl Print, name: &[u8], bytes: &[u8]) {
     let mut mark: u8 = 0;
     if name.len() > 0 {
         mark = name[0];
     }
     if mark == b'?' {
-        queries_trial::over_book(name, bytes);
+        queries_trial::over_book(rt, name, bytes);
     } else if mark == b'!' {
-        queries_trial::over_bare(name, bytes);
+        queries_trial::over_bare(rt, name, bytes);
     } else {
-        show_book(name, bytes);
+        show_book(rt, name, bytes);
     }
     if mark == b'@' {
-        host_trial::over_book(bytes);
+        host_trial::over_book(rt, bytes);
     }
 }
 
@@ -104,22 +104,22 @@ fn bytes_of(s: &[u8], out: &mut [u8]) -> usize
 }
 
 // One line, from its first byte up to the line feed at its end.
-fn show_line(line: &[u8]) {
+fn show_line(rt: &impl Print, line: &[u8]) {
     let colon = find(line, 0, b':');
     let mut out = [0u8; 1024];
     let n = bytes_of(&line[colon..], &mut out);
     if n <= 1024 {
-        show(&line[..colon], &out[..n]);
+        show(rt, &line[..colon], &out[..n]);
     }
 }
 
 // Every line of the text.
-pub fn books(s: &[u8]) {
+pub fn books(rt: &impl Print, s: &[u8]) {
     let mut from: usize = 0;
     while from < s.len() {
         let end = find(s, from, b'\n');
         if end < s.len() {
-            show_line(&s[from..end + 1]);
+            show_line(rt, &s[from..end + 1]);
         }
         from = end + 1;
     }
@@ -153,9 +153,9 @@ fn fill(out: &mut [u8]) {
 }
 
 // A book of 65,536 bytes, which has 2,519 rows, and one of a byte more.
-pub fn full() {
+pub fn full(rt: &impl Print) {
     let mut out = [0u8; 65537];
     fill(&mut out);
-    show(b"book of 65536 bytes", &out[..65536]);
-    show(b"book of 65537 bytes", &out);
+    show(rt, b"book of 65536 bytes", &out[..65536]);
+    show(rt, b"book of 65537 bytes", &out);
 }

@@ -3,27 +3,26 @@
 
 mod books_trial;
 mod host_trial;
+mod input;
 mod queries_trial;
 mod sets_trial;
 mod text;
 mod values_trial;
 
-use libc::STDIN_FILENO;
-
-fn main() {
-    sets_trial::containment();
-    values_trial::operators();
-    values_trial::ranges();
-    values_trial::gaps();
-    values_trial::orders();
-    values_trial::matches();
-    values_trial::comparisons();
-    let mut input = io::large_buffer();
-    let n = io::read_full(STDIN_FILENO, &mut input);
-    books_trial::books(&input[..n]);
-    books_trial::full();
-    queries_trial::full();
-    host_trial::words();
-    host_trial::rows();
-    host_trial::refusals();
+fn main(rt: HostRuntime) {
+    sets_trial::containment(&rt);
+    values_trial::operators(&rt);
+    values_trial::ranges(&rt);
+    values_trial::gaps(&rt);
+    values_trial::orders(&rt);
+    values_trial::matches(&rt);
+    values_trial::comparisons(&rt);
+    let mut input = [0u8; 65536];
+    let n = input::read_full(&rt, &mut input);
+    books_trial::books(&rt, &input[..n]);
+    books_trial::full(&rt);
+    queries_trial::full(&rt);
+    host_trial::words(&rt);
+    host_trial::rows(&rt);
+    host_trial::refusals(&rt);
 }

@@ -14,58 +14,61 @@ const BARE: [u8; 3] = [1, 0, 0];
 
 // What a query asks, or its refusal: the items and comparisons, the attributes named with each variable, the bytes
 // read.
-fn show_query(q: Query) {
+fn show_query(rt: &impl Print, q: Query) {
     if q.refusal != 0 {
-        text::word(b": refused ");
-        text::number(q.refusal as u64);
-        text::put(b'\n');
+        text::word(rt, b": refused ");
+        text::number(rt, q.refusal as u64);
+        text::put(rt, b'\n');
         return;
     }
     let asked = q.asked;
-    text::word(b": items ");
-    text::number(asked.retrieved as u64);
-    text::word(b" comparisons ");
-    text::number(asked.compared as u64);
-    text::word(b" attributes");
+    text::word(rt, b": items ");
+    text::number(rt, asked.retrieved as u64);
+    text::word(rt, b" comparisons ");
+    text::number(rt, asked.compared as u64);
+    text::word(rt, b" attributes");
     let attributes = asked.attributes;
     let mut v: usize = 0;
     while v < 4 {
-        text::put(b' ');
-        text::number(text::wide(attributes[v]));
+        text::put(rt, b' ');
+        text::number(rt, text::wide(attributes[v]));
         v += 1;
     }
-    text::word(b" read ");
-    text::number(q.read as u64);
-    text::put(b'\n');
+    text::word(rt, b" read ");
+    text::number(rt, q.read as u64);
+    text::put(rt, b'\n');
 }
 
 // Reads a query over a book, and writes its name and what it gives.
-fn show(name: &[u8], book: &[u8], bytes: &[u8]) {
+fn show(rt: &impl Print, name: &[u8], book: &[u8], bytes: &[u8]) {
     let mut directory = [0u32; 1];
     let found = book::read(book, &mut directory);
     let scheme = found.scheme;
-    text::word(name);
-    show_query(query::read(
-        bytes,
-        scheme,
-        scheme::first_object_sets(&found.maximal, found.maximals),
-    ));
+    text::word(rt, name);
+    show_query(
+        rt,
+        query::read(
+            bytes,
+            scheme,
+            scheme::first_object_sets(&found.maximal, found.maximals),
+        ),
+    );
 }
 
 // A query over the book, and one over the book of one attribute.
-pub fn over_book(name: &[u8], bytes: &[u8]) {
-    show(name, &BOOK, bytes);
+pub fn over_book(rt: &impl Print, name: &[u8], bytes: &[u8]) {
+    show(rt, name, &BOOK, bytes);
 }
 
-pub fn over_bare(name: &[u8], bytes: &[u8]) {
-    show(name, &BARE, bytes);
+pub fn over_bare(rt: &impl Print, name: &[u8], bytes: &[u8]) {
+    show(rt, name, &BARE, bytes);
 }
 
 // A query of an item and kind 10 with zeros behind it up to 65,536 bytes, and up to one more.
-pub fn full() {
+pub fn full(rt: &impl Print) {
     let mut out = [0u8; 65537];
     out[0] = 7;
     out[3] = 10;
-    over_book(b"? 65536 bytes with kind 10 early", &out[..65536]);
-    over_book(b"? 65537 bytes with kind 10 early", &out);
+    over_book(rt, b"? 65536 bytes with kind 10 early", &out[..65536]);
+    over_book(rt, b"? 65537 bytes with kind 10 early", &out);
 }

@@ -2,23 +2,23 @@
 use crate::text;
 
 // One line for a left and a right kind: which of the operators 0 to 5 are allowed.
-fn operators_line(left: u8, right: u8) {
-    text::word(b"allowed ");
-    text::number(left as u64);
-    text::put(b' ');
-    text::number(right as u64);
-    text::put(b' ');
+fn operators_line(rt: &impl Print, left: u8, right: u8) {
+    text::word(rt, b"allowed ");
+    text::number(rt, left as u64);
+    text::put(rt, b' ');
+    text::number(rt, right as u64);
+    text::put(rt, b' ');
     for operator in 0..6u8 {
         let table = values::built_in();
-        text::flag(values::allowed(table, operator, left, right));
+        text::flag(rt, values::allowed(table, operator, left, right));
     }
-    text::put(b'\n');
+    text::put(rt, b'\n');
 }
 
 // The whole table, a line for each pair of kinds.
-pub fn operators() {
+pub fn operators(rt: &impl Print) {
     for pair in 0..16u8 {
-        operators_line(pair / 4, pair % 4);
+        operators_line(rt, pair / 4, pair % 4);
     }
 }
 
@@ -33,149 +33,149 @@ const CELLS: [u32; 7] = [
 ];
 
 // One line for a kind: which of the extreme cells are in range.
-fn range_line(kind: u8) {
-    text::word(b"range ");
-    text::number(kind as u64);
-    text::put(b' ');
+fn range_line(rt: &impl Print, kind: u8) {
+    text::word(rt, b"range ");
+    text::number(rt, kind as u64);
+    text::put(rt, b' ');
     for i in 0..7usize {
-        text::flag(values::in_range(kind, CELLS[i]));
+        text::flag(rt, values::in_range(kind, CELLS[i]));
     }
-    text::put(b'\n');
+    text::put(rt, b'\n');
 }
 
 // The ranges of the kinds, and of 4, which is no kind.
-pub fn ranges() {
+pub fn ranges(rt: &impl Print) {
     for kind in 0..5u8 {
-        range_line(kind);
+        range_line(rt, kind);
     }
 }
 
 // One line for a kind: which of the extreme cells are missing.
-fn missing_line(kind: u8) {
-    text::word(b"missing ");
-    text::number(kind as u64);
-    text::put(b' ');
+fn missing_line(rt: &impl Print, kind: u8) {
+    text::word(rt, b"missing ");
+    text::number(rt, kind as u64);
+    text::put(rt, b' ');
     for i in 0..7usize {
-        text::flag(values::missing(kind, CELLS[i]));
+        text::flag(rt, values::missing(kind, CELLS[i]));
     }
-    text::put(b'\n');
+    text::put(rt, b'\n');
 }
 
 // What is missing of each kind.
-pub fn gaps() {
+pub fn gaps(rt: &impl Print) {
     for kind in 0..4u8 {
-        missing_line(kind);
+        missing_line(rt, kind);
     }
 }
 
 // How two cells of a kind compare.
-fn order(kind: u8, a: u32, b: u32) {
+fn order(rt: &impl Print, kind: u8, a: u32, b: u32) {
     if values::less(kind, a, b) {
-        text::put(b'<');
+        text::put(rt, b'<');
         return;
     }
     if values::less(kind, b, a) {
-        text::put(b'>');
+        text::put(rt, b'>');
         return;
     }
-    text::put(b'=');
+    text::put(rt, b'=');
 }
 
 // One line for a kind and an extreme cell: how it compares with each of them.
-fn order_line(kind: u8, a: u32) {
-    text::word(b"order ");
-    text::number(kind as u64);
-    text::put(b' ');
-    text::number(a as u64);
-    text::put(b' ');
+fn order_line(rt: &impl Print, kind: u8, a: u32) {
+    text::word(rt, b"order ");
+    text::number(rt, kind as u64);
+    text::put(rt, b' ');
+    text::number(rt, a as u64);
+    text::put(rt, b' ');
     for i in 0..7usize {
-        order(kind, a, CELLS[i]);
+        order(rt, kind, a, CELLS[i]);
     }
-    text::put(b'\n');
+    text::put(rt, b'\n');
 }
 
 // The lines of one kind.
-fn order_lines(kind: u8) {
+fn order_lines(rt: &impl Print, kind: u8) {
     for i in 0..7usize {
-        order_line(kind, CELLS[i]);
+        order_line(rt, kind, CELLS[i]);
     }
 }
 
 // The order of the extreme cells, for each kind.
-pub fn orders() {
+pub fn orders(rt: &impl Print) {
     for kind in 0..4u8 {
-        order_lines(kind);
+        order_lines(rt, kind);
     }
 }
 
 // One line for a kind and a cell: which of the extreme cells it matches in a join.
-fn match_line(kind: u8, a: u32) {
-    text::word(b"match ");
-    text::number(kind as u64);
-    text::put(b' ');
-    text::number(a as u64);
-    text::put(b' ');
+fn match_line(rt: &impl Print, kind: u8, a: u32) {
+    text::word(rt, b"match ");
+    text::number(rt, kind as u64);
+    text::put(rt, b' ');
+    text::number(rt, a as u64);
+    text::put(rt, b' ');
     for i in 0..7usize {
-        text::flag(values::matching(kind, a, CELLS[i]));
+        text::flag(rt, values::matching(kind, a, CELLS[i]));
     }
-    text::put(b'\n');
+    text::put(rt, b'\n');
 }
 
 // What the cells that are missing in some kind match, and their neighbours, for each kind.
-pub fn matches() {
+pub fn matches(rt: &impl Print) {
     for kind in 0..4u8 {
-        match_line(kind, 0x8000_0000);
-        match_line(kind, 0x8000_0001);
-        match_line(kind, 0xffff_fffe);
-        match_line(kind, 0xffff_ffff);
+        match_line(rt, kind, 0x8000_0000);
+        match_line(rt, kind, 0x8000_0001);
+        match_line(rt, kind, 0xffff_fffe);
+        match_line(rt, kind, 0xffff_ffff);
     }
 }
 
 // One line for two cells, each of its kind: which of the operators 0 to 5 hold of them.
-fn holds_line(left: u8, right: u8, a: u32, b: u32) {
-    text::word(b"holds ");
-    text::number(left as u64);
-    text::put(b' ');
-    text::number(right as u64);
-    text::put(b' ');
-    text::number(a as u64);
-    text::put(b' ');
-    text::number(b as u64);
-    text::put(b' ');
+fn holds_line(rt: &impl Print, left: u8, right: u8, a: u32, b: u32) {
+    text::word(rt, b"holds ");
+    text::number(rt, left as u64);
+    text::put(rt, b' ');
+    text::number(rt, right as u64);
+    text::put(rt, b' ');
+    text::number(rt, a as u64);
+    text::put(rt, b' ');
+    text::number(rt, b as u64);
+    text::put(rt, b' ');
     for operator in 0..6u8 {
-        text::flag(values::holds(operator, left, right, a, b));
+        text::flag(rt, values::holds(operator, left, right, a, b));
     }
-    text::put(b'\n');
+    text::put(rt, b'\n');
 }
 
 // The missing cell of a kind with itself and with a value, on both sides.
-fn holds_lines(kind: u8, gap: u32) {
-    holds_line(kind, kind, gap, gap);
-    holds_line(kind, kind, gap, 7);
-    holds_line(kind, kind, 7, gap);
+fn holds_lines(rt: &impl Print, kind: u8, gap: u32) {
+    holds_line(rt, kind, kind, gap, gap);
+    holds_line(rt, kind, kind, gap, 7);
+    holds_line(rt, kind, kind, 7, gap);
 }
 
 // The same between a kind and lengths, where a club's table allows it.
-fn beside_lengths(kind: u8, gap: u32) {
-    holds_line(kind, 1, gap, 7);
-    holds_line(1, kind, 7, gap);
-    holds_line(kind, 1, 7, 0x8000_0000);
-    holds_line(1, kind, 0x8000_0000, 7);
-    holds_line(1, kind, 0x8000_0000, gap);
+fn beside_lengths(rt: &impl Print, kind: u8, gap: u32) {
+    holds_line(rt, kind, 1, gap, 7);
+    holds_line(rt, 1, kind, 7, gap);
+    holds_line(rt, kind, 1, 7, 0x8000_0000);
+    holds_line(rt, 1, kind, 0x8000_0000, 7);
+    holds_line(rt, 1, kind, 0x8000_0000, gap);
 }
 
 // Comparisons with missing cells, for each kind, and with the cells that are missing in other kinds only.
-pub fn comparisons() {
-    holds_lines(0, 0xffff_ffff);
-    holds_lines(1, 0x8000_0000);
-    holds_lines(2, 0xffff_ffff);
-    holds_lines(3, 0xffff_ffff);
-    beside_lengths(0, 0xffff_ffff);
-    beside_lengths(2, 0xffff_ffff);
-    beside_lengths(3, 0xffff_ffff);
-    holds_line(1, 1, 0xffff_ffff, 0xffff_ffff);
-    holds_line(1, 1, 0xffff_ffff, 7);
-    holds_line(0, 0, 0x8000_0000, 0x8000_0000);
-    holds_line(3, 3, 7, 0x8000_0000);
-    holds_line(3, 1, 0x8000_0000, 0xffff_ffff);
+pub fn comparisons(rt: &impl Print) {
+    holds_lines(rt, 0, 0xffff_ffff);
+    holds_lines(rt, 1, 0x8000_0000);
+    holds_lines(rt, 2, 0xffff_ffff);
+    holds_lines(rt, 3, 0xffff_ffff);
+    beside_lengths(rt, 0, 0xffff_ffff);
+    beside_lengths(rt, 2, 0xffff_ffff);
+    beside_lengths(rt, 3, 0xffff_ffff);
+    holds_line(rt, 1, 1, 0xffff_ffff, 0xffff_ffff);
+    holds_line(rt, 1, 1, 0xffff_ffff, 7);
+    holds_line(rt, 0, 0, 0x8000_0000, 0x8000_0000);
+    holds_line(rt, 3, 3, 7, 0x8000_0000);
+    holds_line(rt, 3, 1, 0x8000_0000, 0xffff_ffff);
 }

@@ -2,6 +2,6 @@
 // as the paper's: its records, its maximal object declared four times, one of its rows over and over.
 #![tactic(auto)]
 
-fn main() {
-    program::run_unit();
+fn main(rt: HostRuntime) {
+    program::run_unit(&rt);
 }

@@ -2,6 +2,6 @@
 // refused 1` only". The bytes before the last are 16,384 queries that would be answered.
 #![tactic(auto)]
 
-fn main() {
-    program::run_unit();
+fn main(rt: HostRuntime) {
+    program::run_unit(&rt);
 }

@@ -2,6 +2,6 @@
 // as one by kind 15 too: "Object numbers run to 63 in kinds 2 and 4, and every held set of objects grows to 64 bits."
 #![tactic(auto)]
 
-fn main() {
-    program::run_unit();
+fn main(rt: HostRuntime) {
+    program::run_unit(&rt);
 }

@@ -2,6 +2,6 @@
 // only".
 #![tactic(auto)]
 
-fn main() {
-    program::run_unit();
+fn main(rt: HostRuntime) {
+    program::run_unit(&rt);
 }

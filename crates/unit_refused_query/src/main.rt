@@ -2,6 +2,6 @@
 // used up or one is refused."; "a refused query `query refused N`".
 #![tactic(auto)]
 
-fn main() {
-    program::run_unit();
+fn main(rt: HostRuntime) {
+    program::run_unit(&rt);
 }
