@@ -5,7 +5,7 @@ use lib.ListN.{length}
 use Rattle.sheet_trials.proofs.all_sheets.Given as goal
 
 abbrev pub invariant-loop-called : goal.invariant-loop-called
-invariant-loop-called l = (called ≤ l.calls) × (length l.called ≡ length l.initial.out)
+invariant-loop-called l = (l.called ≤ l.rows) × (length l.out ≡ length l.calls)
 
 abbrev pub decreases-loop-called : goal.decreases-loop-called
-decreases-loop-called l = l.calls - called
+decreases-loop-called l = l.rows - l.called

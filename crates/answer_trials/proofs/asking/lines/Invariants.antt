@@ -6,7 +6,7 @@ use lib.ListN.{length}
 use Rattle.answer_trials.proofs.asking.lines.Given as goal
 
 abbrev pub invariant-loop-from : goal.invariant-loop-from
-invariant-loop-from l = (l.from ≤ length l.s + 1) × (l.held ≤ 2048) × (length l.book ≡ 2048)
+invariant-loop-from l = (l.held ≤ length l.rt + 1) × (l.book ≤ 2048) × (length l.initial.from ≡ 2048)
 
 abbrev pub decreases-loop-from : goal.decreases-loop-from
-decreases-loop-from l = length l.s - l.from
+decreases-loop-from l = length l.rt - l.held

@@ -6,7 +6,7 @@ use lib.ListN.{length}
 use Rattle.answer_trials.proofs.asking.past_the_pools.Given as goal
 
 abbrev pub invariant-loop-cell : goal.invariant-loop-cell
-invariant-loop-cell l = (cell ≤ 100) × (at ≡ 34 + 52 * cell) × (length l.at ≡ 5260)
+invariant-loop-cell l = (l.at ≤ 100) × (at ≡ 34 + 52 * l.at) × (length l.cell ≡ 5260)
 
 abbrev pub decreases-loop-cell : goal.decreases-loop-cell
-decreases-loop-cell l = 100 - cell
+decreases-loop-cell l = 100 - l.at

@@ -5,5 +5,11 @@ use native.Mathlib.Omega.{arith}
 use lib.ListN.{length-set}
 use Rattle.answer_trials.proofs.reading.bytes_of.Goals as goal
 
+-- TODO same_length
+-- same_length c = search rules
+
 pub loop-n-preserved : goal.loop-n-preserved
 loop-n-preserved c = simp length-set (omega arith)
+
+-- TODO same-length-2
+-- same-length-2 c = search rules

@@ -4,5 +4,8 @@ use native.Mathlib.Omega.{arith}
 use lib.ListN.{length-set}
 use Rattle.answer_trials.proofs.reading.push.Goals as goal
 
+-- TODO same_length
+-- same_length c = search rules
+
 pub returns-then-n-out : goal.returns-then-n-out
 returns-then-n-out c = simp length-set (omega arith)

@@ -5,7 +5,7 @@ use lib.ListN.{length}
 use Rattle.answer_trials.proofs.text.cells.Given as goal
 
 abbrev pub invariant-loop-i : goal.invariant-loop-i
-invariant-loop-i l = l.i ≤ length l.space
+invariant-loop-i l = l.initial.i ≤ length l.rt
 
 abbrev pub decreases-loop-i : goal.decreases-loop-i
-decreases-loop-i l = length l.space - l.i
+decreases-loop-i l = length l.rt - l.initial.i

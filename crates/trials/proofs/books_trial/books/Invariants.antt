@@ -5,7 +5,7 @@ use lib.ListN.{length}
 use Rattle.trials.proofs.books_trial.books.Given as goal
 
 abbrev pub invariant-loop-from : goal.invariant-loop-from
-invariant-loop-from l = l.from ≤ length l.s + 1
+invariant-loop-from l = l.initial.from ≤ length l.rt + 1
 
 abbrev pub decreases-loop-from : goal.decreases-loop-from
-decreases-loop-from l = length l.s - l.from
+decreases-loop-from l = length l.rt - l.initial.from

@@ -7,3 +7,6 @@ use Rattle.trials.proofs.books_trial.fill.Goals as goal
 
 pub loop-i-preserved : goal.loop-i-preserved
 loop-i-preserved c = simp length-set (omega arith)
+
+-- TODO same_length
+-- same_length c = search rules

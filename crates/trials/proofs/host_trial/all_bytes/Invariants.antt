@@ -4,7 +4,7 @@ use lib.ListN.{length}
 use Rattle.trials.proofs.host_trial.all_bytes.Given as goal
 
 abbrev pub invariant-loop-i : goal.invariant-loop-i
-invariant-loop-i l = l.i ≤ length l.list
+invariant-loop-i l = l.initial.i ≤ length l.rt
 
 abbrev pub decreases-loop-i : goal.decreases-loop-i
-decreases-loop-i l = length l.list - l.i
+decreases-loop-i l = length l.rt - l.initial.i

@@ -3,7 +3,7 @@ use Prim.Native.Nat.{◌≤◌, ◌-◌}
 use Rattle.trials.proofs.host_trial.words.Given as goal
 
 abbrev pub invariant-loop-number : goal.invariant-loop-number
-invariant-loop-number l = l.number ≤ 26
+invariant-loop-number l = l.initial.number ≤ 26
 
 abbrev pub decreases-loop-number : goal.decreases-loop-number
-decreases-loop-number l = 26 - l.number
+decreases-loop-number l = 26 - l.initial.number

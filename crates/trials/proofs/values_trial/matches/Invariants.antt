@@ -3,7 +3,7 @@ use Prim.Native.Nat.{◌≤◌, ◌-◌}
 use Rattle.trials.proofs.values_trial.matches.Given as goal
 
 abbrev pub invariant-loop-kind : goal.invariant-loop-kind
-invariant-loop-kind l = l.kind ≤ 4
+invariant-loop-kind l = l.initial.kind ≤ 4
 
 abbrev pub decreases-loop-kind : goal.decreases-loop-kind
-decreases-loop-kind l = 4 - l.kind
+decreases-loop-kind l = 4 - l.initial.kind

@@ -3,7 +3,7 @@ use Prim.Native.Nat.{◌≤◌, ◌-◌}
 use Rattle.trials.proofs.values_trial.operators_line.Given as goal
 
 abbrev pub invariant-loop-operator : goal.invariant-loop-operator
-invariant-loop-operator l = l.operator ≤ 6
+invariant-loop-operator l = l.initial.operator ≤ 6
 
 abbrev pub decreases-loop-operator : goal.decreases-loop-operator
-decreases-loop-operator l = 6 - l.operator
+decreases-loop-operator l = 6 - l.initial.operator

@@ -3,7 +3,7 @@ use Prim.Native.Nat.{◌≤◌, ◌-◌}
 use Rattle.trials.proofs.values_trial.ranges.Given as goal
 
 abbrev pub invariant-loop-kind : goal.invariant-loop-kind
-invariant-loop-kind l = l.kind ≤ 5
+invariant-loop-kind l = l.initial.kind ≤ 5
 
 abbrev pub decreases-loop-kind : goal.decreases-loop-kind
-decreases-loop-kind l = 5 - l.kind
+decreases-loop-kind l = 5 - l.initial.kind
