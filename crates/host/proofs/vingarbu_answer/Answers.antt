@@ -7,7 +7,8 @@ use Rattle.host.proofs.Given.{answer_short, answer_done}
 use Rattle.host.proofs.vingarbu_answer.Goals as goal
 
 pub returns-then-results-lt4 : goal.returns-then-results-lt4
-returns-then-results-lt4 c = let r = answer_short _ _ _ _ _ c.if-results-lt4.true in record { value = r.0; space_after = r.1.0; results_after = r.1.1 }
+returns-then-results-lt4 c = let r = answer_short _ _ _ _ _ c.if-results-lt4.true in
+    record { value = r.0; space_after = r.1.0; results_after = r.1.1 }
 
 pub bounds-results-1 : goal.bounds-results-1
 bounds-results-1 c = omega (

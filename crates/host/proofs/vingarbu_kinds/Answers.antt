@@ -10,7 +10,8 @@ use Rattle.host.proofs.Given.{give_short, give_done}
 use Rattle.host.proofs.vingarbu_kinds.Goals as goal
 
 pub returns-then-results-lt1 : goal.returns-then-results-lt1
-returns-then-results-lt1 c = let r = give_short _ _ _ _ c.if-results-lt1.true in record { value = r.0; kinds_after = r.1.0; results_after = r.1.1 }
+returns-then-results-lt1 c = let r = give_short _ _ _ _ c.if-results-lt1.true in
+    record { value = r.0; kinds_after = r.1.0; results_after = r.1.1 }
 
 pub slice_bounds-print_text-end : goal.slice_bounds-print_text-end
 slice_bounds-print_text-end c = sym (length-take-le _ _ (omega (
