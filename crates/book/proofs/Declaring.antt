@@ -231,9 +231,9 @@ short_no k n = ap (λ (b : Bool). elim b [ true ↦ 3 | false ↦ 2 ]) (sym n)
 
 -- ---- where no whole record stands
 
-pub stops_at_end : (x : Reading) → OneOf (0 ∷ 3 ∷ []) (tag_of ReadingType.the_type x) → 0 ≡ stop_number x
+pub stops_at_end : (x : Reading) → (x ≡ Unknown → ⊥) → ((kind : ℕ) → x ≡ Short kind → ⊥) → 0 ≡ stop_number x
 unfolding stop_number
-stops_at_end Nothing h = refl
-stops_at_end Unknown h = absurd (miss (0 ∷ 3 ∷ []) 1 tt h)
-stops_at_end (Short k) h = absurd (miss (0 ∷ 3 ∷ []) 2 tt h)
-stops_at_end (Found r next) h = refl
+stops_at_end Nothing u s = refl
+stops_at_end Unknown u s = absurd (u refl)
+stops_at_end (Short k) u s = absurd (s k refl)
+stops_at_end (Found r next) u s = refl

@@ -110,15 +110,15 @@ module _ {b dir₀ dir : List ℕ} {s : Scheme} {rows at : ℕ} (v : Walking b d
   )
 
   -- no whole record stands there
-  pub walking_unread : {n : ℕ} (x : Reading) → read_at b at ≡ x → OneOf (0 ∷ 1 ∷ 2 ∷ []) (tag_of the_type x) → n ≡
-      stop_number x
+  pub walking_unread : {n : ℕ} (x : Reading) → read_at b at ≡ x → ((r : Record) (next : ℕ) → x ≡ Found r next → ⊥)
+      → n ≡ stop_number x
       → (◌≡◌ {A = Walked} (record { refusal = n; rows = rows; scheme = s }) (walked_of (records b)))
       × (dir ≡ stored (records b).rows dir₀)
   unfolding stop_number
   walking_unread Nothing e k q = walking_out (stops_nothing v.accepted e) q
   walking_unread Unknown e k q = walking_out (stops_unknown v.accepted e) q
   walking_unread (Short kind) e k q = walking_out (stops_short v.accepted e) q
-  walking_unread (Found r next) e k q = absurd (miss (0 ∷ 1 ∷ 2 ∷ []) 3 tt k)
+  walking_unread (Found r next) e k q = absurd (k r next refl)
 
   pub walking_faulty : {r : Record} {next n : ℕ} → read_at b at ≡ Found r next → n ≡ fault_of s r → (n ≡ 0 → ⊥)
       → (◌≡◌ {A = Walked} (record { refusal = n; rows = rows; scheme = s }) (walked_of (records b)))

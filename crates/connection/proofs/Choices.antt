@@ -89,6 +89,7 @@ module _ (o : Outcome) (q : Asking) where
       → meets o q.condition (chosen_cells q l) ≡ true
       → Memᴰ (item_cells q.items (chosen_cells q l)) (rows_chosen o q ls)
   unfolding rows_chosen
+  rows_chosen_has {ls = []} m e = elim m [ ]
   rows_chosen_has {l} {ls = k ∷ ls} m e = by (meets o q.condition (chosen_cells q k)) refl m (λ i. rows_chosen_has i e)
     where
       row : Row

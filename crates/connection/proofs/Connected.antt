@@ -47,6 +47,7 @@ module _ (b : List ℕ) (o : Outcome) (X : ℕ) where
   parts_have : {M : ℕ} {Ms : List ℕ} {row : Row} → Memᴰ M Ms → Memᴰ row (part_of M)
       → Memᴰ row (parts b o X Ms)
   unfolding parts
+  parts_have {Ms = []} m i = elim m [ ]
   parts_have {Ms = N ∷ Ms} {row} (Memᴰ.head e) i =
       Memᴰ.append_left (parts b o X Ms) (subst (λ (K : ℕ). Memᴰ row (part_of K)) e i)
   parts_have {Ms = N ∷ Ms} (Memᴰ.tail m) i = Memᴰ.append_right (part_of N) (parts_have m i)

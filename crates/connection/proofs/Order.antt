@@ -164,7 +164,8 @@ module _ {A : Type 0} where
       one (h v (Memᴰ.head refl)) (each_of P f thing vs (λ u m. h u (Memᴰ.tail m)))
 
 -- functions that map a list to the same have the same for its elements
-same_map : {A : Type 0} (f g : ℕ → A) {vs : List ℕ} → map f vs ≡ map g vs → {v : ℕ} → Memᴰ v vs → f v ≡ g v
+same_map : {A : Type 0} (f g : ℕ → A) {v : ℕ} {vs : List ℕ} → map f vs ≡ map g vs → Memᴰ v vs → f v ≡ g v
+same_map f g {vs = []} e m = elim m [ ]
 same_map {A} f g {vs = u ∷ vs} e (Memᴰ.head z) =
     ap f z ∙ ap (λ (l : List A). get_or l 0 (f u)) e ∙ ap g (sym z)
 same_map f g {vs = u ∷ vs} e (Memᴰ.tail m) = same_map f g (ap tail e) m

@@ -5,7 +5,7 @@
 use mathlib.Core.Path.{◌≡◌, refl, sym, ap, ap₂, ◌∙◌, subst}
 use mathlib.Core.Logic.{◌↔◌, ⊎_elim}
 use mathlib.Core.List.Memᴰ
-use mathlib.Core.List.{List, [], ◌∷◌, ◌++◌, map, Memᴰ}
+use mathlib.Core.List.{List, [], ◌∷◌, ◌++◌, map, tail, Memᴰ}
 use Prim.Native.Nat.{ℕ, zero, suc, ◌+◌, ◌*◌, ◌<◌, suc-le-suc}
 use native.Mathlib.Nat.{not-suc-le-zero, le_of_suc-le-suc, zero-lt-suc, suc-mul, zero-mul}
 use native.Mathlib.Omega.{arith}
@@ -46,6 +46,7 @@ module _ {A : Type 0} where
   in_front_has : {x : A} {xs : List A} {l : List A} {ls : List (List A)} → Memᴰ x xs → Memᴰ l ls
       → Memᴰ (x ∷ l) (in_front xs ls)
   unfolding in_front
+  in_front_has {xs = []} i m = elim i [ ]
   in_front_has {xs = y ∷ xs} {l} {ls} (Memᴰ.head e) m =
       Memᴰ.append_left (in_front xs ls) (Memᴰ.cast (ap (λ (z : A). z ∷ l) e) (Memᴰ.map (λ q. y ∷ q) m))
   in_front_has {xs = y ∷ xs} {ls = ls} (Memᴰ.tail i) m =
@@ -172,13 +173,29 @@ module _ {I A : Type 0} {R : I → A → A → Type 0} where
   picks_in_order F (i ∷ is) h =
       front_in_order (h i (Memᴰ.head refl)) (picks_in_order F is (λ j m. h j (Memᴰ.tail m)))
 
+  -- the same of picks that are equal to these
+  not_both_of : ((i : I) (x y : A) → R i x y → R i y x → ⊥) → {is : List I} {p q p' q' : List A} → Before R is p q
+      → Before R is q' p' → p ≡ p' → q ≡ q' → ⊥
+  not_both_of h (first {i} {x = x} {y} r) (first {x = y'} {y = x'} s) e f =
+      let ex : x ≡ x' = ap (λ (l : List A). get_or l 0 x) e in
+      let ey : y ≡ y' = ap (λ (l : List A). get_or l 0 y) f in
+      h i x y r (subst (R i y) (sym ex) (subst (λ (z : A). R i z x') (sym ey) s))
+  not_both_of h (first {i} {x = x} {y} r) (next {x = z} s) e f =
+      let ex : x ≡ z = ap (λ (l : List A). get_or l 0 x) e in
+      let ey : y ≡ z = ap (λ (l : List A). get_or l 0 y) f in
+      let t : R i z z = subst (λ (u : A). R i u z) ex (subst (R i x) ey r) in
+      h i z z t t
+  not_both_of h (next {i} {x = z} r) (first {x = y} {y = x} s) e f =
+      let ex : z ≡ x = ap (λ (l : List A). get_or l 0 z) e in
+      let ey : z ≡ y = ap (λ (l : List A). get_or l 0 z) f in
+      let t : R i z z = subst (λ (u : A). R i u z) (sym ey) (subst (R i y) (sym ex) s) in
+      h i z z t t
+  not_both_of h (next r) (next s) e f = not_both_of h r s (ap tail e) (ap tail f)
+
   -- no two picks stand before each other, where no two elements do
   pub before_not_both : ((i : I) (x y : A) → R i x y → R i y x → ⊥) → {is : List I} {p q : List A} → Before R is p q
       → Before R is q p → ⊥
-  before_not_both h (first r) (first s) = h _ _ _ r s
-  before_not_both h (first r) (next s) = h _ _ _ r r
-  before_not_both h (next r) (first s) = h _ _ _ s s
-  before_not_both h (next r) (next s) = before_not_both h r s
+  before_not_both h r s = not_both_of h r s refl refl
 
 -- ---- lists with the same members: where no two elements stand before each other, one list in order has them
 

@@ -25,5 +25,5 @@ pub written_behind : (a b c : Option (List ℕ)) (n m k : ℕ) (xs : List ℕ) �
     → Appends a b (take n xs) → Appends b c (take m (take k (drop n xs))) → Appends a c (take (n + m) xs)
 written_behind a b c n m k xs fits p q =
     let both : take n xs ++ take m (take k (drop n xs)) ≡ take (n + m) xs =
-      ap (λ l. take n xs ++ l) (take-take m k (drop n xs) fits) ∙ sym (take-add n m xs) in
+    ap (λ l. take n xs ++ l) (take-take m k (drop n xs) fits) ∙ sym (take-add n m xs) in
     subst (Appends a c) both (Appends-trans a b c _ _ p q)

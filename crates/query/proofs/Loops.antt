@@ -94,14 +94,14 @@ module _ {s : Scheme} {b : List ℕ} {q : Asked} {at : ℕ} (v : Walking s b q a
       e ∙ ap {B = Stop (List Record)} (λ (k : ℕ). record { number = k; state = v.passed; at = at }) (sym p)
 
   -- no whole record stands there
-  pub walking_unread : {n : ℕ} (x : Reading) → read_at b at ≡ x → OneOf (0 ∷ 1 ∷ 2 ∷ []) (tag_of the_type x)
+  pub walking_unread : {n : ℕ} (x : Reading) → read_at b at ≡ x → ((r : Record) (next : ℕ) → x ≡ Found r next → ⊥)
       → n ≡ stop_number x → ◌≡◌ {A = Walked} (record { refusal = n; asked = q; at = at }) (walked_of (walk_query s b))
   unfolding stop_number walk_query
   walking_unread {n} Nothing e k p = walking_out n at v.passed refl (renumbered (stops_nothing v.accepted e) p)
   walking_unread {n} Unknown e k p = walking_out n at v.passed refl (renumbered (stops_unknown v.accepted e) p)
   walking_unread {n} (Short kind) e k p =
       walking_out n at v.passed refl (renumbered (stops_short v.accepted e) p)
-  walking_unread (Found r next) e k p = absurd (miss (0 ∷ 1 ∷ 2 ∷ []) 3 tt k)
+  walking_unread (Found r next) e k p = absurd (k r next refl)
 
   pub walking_faulty : {r : Record} {next n : ℕ} → read_at b at ≡ Found r next
       → n ≡ fault_of s q r → (n ≡ 0 → ⊥)

@@ -45,7 +45,7 @@ module _ (sets : List ℕ) (X : ℕ) where
           (λ q. (Memᴰ.tail (later q).0, (later q).1)) (Memᴰ.cases_cons p)
       by false y later p = (Memᴰ.tail (later p).0, (later p).1)
 
-  pub containing_has : {Ms : List ℕ} {M : ℕ} → Memᴰ M Ms → Contains sets X M → Memᴰ M (containing sets Ms X)
+  pub containing_has : {M : ℕ} {Ms : List ℕ} → Memᴰ M Ms → Contains sets X M → Memᴰ M (containing sets Ms X)
   unfolding containing
   containing_has {M = M} (Memᴰ.head {x = N} {xs = Ms} e) c = by (within X (attributes_of sets N)) refl
     where

@@ -246,7 +246,7 @@ unfolding bytes_of_all AllInWidth
 stands_reads {s} {at} [] {next} width h = subst (Reads s at []) (sym (h.place ∙ add-zero at)) done
 stands_reads {s} {at} (r ∷ rs) {next} width h =
     let parts = stands_parts (bytes_of r) (bytes_of_all rs) h in
-    more (stands_read_at width.0 parts.0) (stands_reads rs width.1 parts.1)
+    more (stands_read_at width.0 parts.0) (stands_reads {at = at + length (bytes_of r)} rs width.1 parts.1)
 
 pub reads_written : (p : List ℕ) (rs : List Record) (q : List ℕ) → AllInWidth rs
     → Reads (p ++ bytes_of_all rs ++ q) (length p) rs (length p + length (bytes_of_all rs))

@@ -20,7 +20,7 @@ pub record Condition : Type 1 where
 abbrev pub ◌gives◌ : Type 0 → ℕ → Condition
 P gives n = record { holds = P; number = n }
 
-infix 1 ◌gives◌
+infix 0 ◌gives◌
 -- n is the number of the first condition that holds, or 0 where none does
 unfoldable pub First : List Condition → ℕ → Type 0
 First [] n = n ≡ 0

@@ -116,7 +116,7 @@ module _ {Ts : List Table} (o : OfAttributes (family Ts)) (agree : AgreePairwise
     pub all_fit : AllFit A assigns Ts
     pub same : (b : ℕ) → b ∈ X → assigns b ≡ σ b
 
-  pub backwards : {A B X : ℕ} {σ : ℕ → ℕ} → Shrinks X (family Ts) A B → AllFit B σ Ts → Extended A X σ
+  pub backwards : {X A B : ℕ} {σ : ℕ → ℕ} → Shrinks X (family Ts) A B → AllFit B σ Ts → Extended A X σ
   backwards {σ = σ} stop f = record { assigns = σ; all_fit = f; same = λ b i. refl }
   backwards {X = X} {σ} (take_out a i out r rest) f =
       let e = backwards rest f in

@@ -7,7 +7,7 @@ use mathlib.Core.Bool.{Bool, true, false, ◌&&◌, ◌||◌}
 use mathlib.Core.Logic.{◌⊎◌, inl, inr, ⊎_elim}
 use mathlib.Core.List.Memᴰ
 use mathlib.Core.List.{List, [], ◌∷◌, map, Memᴰ}
-use Prim.Native.Nat.{ℕ, zero, suc, ◌+◌, ◌-◌, ◌^◌, ◌≤◌, ◌<◌}
+use Prim.Native.Nat.{ℕ, zero, suc, ◌+◌, ◌^◌, ◌≤◌, ◌<◌}
 use native.Mathlib.Nat.{not-suc-le-zero, le_of_suc-le-suc, eq-or-lt_of_le, lt_trans, le_refl}
 use native.Mathlib.Omega.{arith}
 use lib.ListN.{get_or}
@@ -44,7 +44,7 @@ of_map f (x ∷ l) (Memᴰ.tail m) =
     let i = of_map f l m in
     record { of = i.of; there = Memᴰ.tail i.there; gives = i.gives }
 
-pub map_in : (f : ℕ → ℕ) {l : List ℕ} {x : ℕ} → Memᴰ x l → Memᴰ (f x) (map f l)
+pub map_in : (f : ℕ → ℕ) {x : ℕ} {l : List ℕ} → Memᴰ x l → Memᴰ (f x) (map f l)
 map_in f (Memᴰ.head e) = Memᴰ.head (ap f e)
 map_in f (Memᴰ.tail m) = Memᴰ.tail (map_in f m)
 

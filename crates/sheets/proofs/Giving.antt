@@ -2,16 +2,16 @@
 -- In order: the two tests, what each result of them gives, the number as the statement has it, as the code gives it.
 -- Assumes nothing.
 use mathlib.Core.Path.{◌≡◌, refl, sym, ap, ap₂, subst, ◌∙◌}
-use mathlib.Core.Bool.{Bool, true, false, ◌||◌, not}
-use mathlib.Core.Logic.{◌⊎◌, inl, inr, ⊎_elim, ◌↔◌}
-use mathlib.Core.List.{List, [], ◌∷◌, ◌++◌}
-use Prim.Native.Nat.{ℕ, ◌+◌, ◌-◌, ◌^◌, ◌≤◌, ◌<◌}
+use mathlib.Core.Bool.{Bool, true, false, not}
+use mathlib.Core.Logic.{◌⊎◌, inl, inr, ⊎_elim}
+use mathlib.Core.List.{List, ◌++◌}
+use Prim.Native.Nat.{ℕ, ◌^◌, ◌≤◌, ◌<◌}
 use native.Mathlib.Nat.{zero-add}
 use native.Mathlib.Omega.{arith}
 use borrow.Author.Tests as Tests
 use lib.Dec.{eqb, ltb}
 use lib.ListN.{length, drop}
-use Rattle.sets.proofs.Tests.{yes_no, not_yes, or_left, or_right, or_no}
+use Rattle.sets.proofs.Tests.{yes_no, or_left, or_right, or_no}
 use Rattle.sets.proofs.Numbers.{lt_or_le}
 use Rattle.printout.specs.Lines.{FitToPrint, fits}
 use Rattle.printout.specs.Printing.{written}

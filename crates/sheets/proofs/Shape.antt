@@ -7,11 +7,11 @@ use mathlib.Core.List.Memᴰ
 use mathlib.Core.List.{List, [], ◌∷◌, ◌++◌, Memᴰ, append_assoc}
 use mathlib.Core.List.{append-nil}
 use Prim.Native.Nat.{ℕ, zero, suc, ◌+◌, ◌-◌, ◌*◌, ◌^◌, ◌≤◌, ◌<◌, min}
-use native.Mathlib.Nat.{suc-mul, add-mul, mul-le-mul_right, le_trans}
+use native.Mathlib.Nat.{suc-mul, add-mul, mul-le-mul_right}
 use native.Mathlib.Omega.{arith}
 use lib.ListN.{length, get_or, take, drop, length-append, length-drop, get_or-append}
 use lib.Seq.{get_or-drop, get_or-append-add, get_or_at}
-use Rattle.sorted.specs.Rows.{Row, OfKinds, rows_in}
+use Rattle.sorted.specs.Rows.{Row, rows_in}
 use Rattle.sorted.proofs.Halving.{length_rows}
 use Rattle.printout.specs.Decimal.{decimal, cell_text}
 use Rattle.printout.specs.Lines.{cell_texts, FitToPrint}
@@ -62,6 +62,7 @@ cells_few (k ∷ kinds) (a ∷ row) = omega (arith, cells_few kinds row)
 -- ---- lines
 
 blank_is : (n b : ℕ) → Memᴰ b (blanks n) → b ≡ 32
+blank_is zero b m = elim m [ ]
 blank_is (suc n) b (Memᴰ.head e) = e
 blank_is (suc n) b (Memᴰ.tail m) = blank_is n b m
 
@@ -73,6 +74,7 @@ field_over text s b m =
 
 fields_over : {texts : List (List ℕ)} → Shorts texts → (b : ℕ) → Memᴰ b (fields_of texts) → 32 ≤ b
 unfolding fields_of
+fields_over none b m = elim m [ ]
 fields_over (more {text} s v) b m =
     ⊎_elim (λ k. field_over text s b k) (λ k. fields_over v b k) (Memᴰ.append_cases (field_of text) m)
 
@@ -112,6 +114,7 @@ shaped_append none w = w
 shaped_append (more l v) w = more l (shaped_append v w)
 
 shaped_each : {ls : List (List ℕ)} → Shaped ls → (l : List ℕ) → Memᴰ l ls → LineOf96 l
+shaped_each none l m = elim m [ ]
 shaped_each (more v vs) l (Memᴰ.head e) = subst LineOf96 (sym e) v
 shaped_each (more v vs) l (Memᴰ.tail m) = shaped_each vs l m
 

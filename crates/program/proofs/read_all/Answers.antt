@@ -9,6 +9,9 @@ returns-then-call-clause-bytes g c =
     (search rules) c.loop-n.invariant.2 c.read_once-call.ensures.bytes
 
 pub loop-n-preserved : goal.loop-n-preserved
-loop-n-preserved g c =
-    (search rules, search rules, read_behind _ _ _ c.loop-n.n c.read_once-call.result.count _ c.loop-n.buf c.read_once-call.new.buf c.loop-n.invariant.0
-    (search rules) c.loop-n.invariant.2 c.read_once-call.ensures.bytes)
+loop-n-preserved g c = (
+  search rules,
+  search rules,
+  read_behind _ _ _ c.loop-n.n c.read_once-call.result.count _ c.loop-n.buf c.read_once-call.new.buf c.loop-n.invariant.0
+      (search rules) c.loop-n.invariant.2 c.read_once-call.ensures.bytes,
+)

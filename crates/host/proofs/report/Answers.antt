@@ -1,0 +1,13 @@
+-- `host::report` meets its contract, by what printing came to.
+-- Assumes nothing.
+use Rattle.host.proofs.Given.{bytes_here, told_short, told_not_fit}
+use Rattle.host.proofs.report.Goals as goal
+
+pub returns-in-Bytes : goal.returns-in-Bytes
+returns-in-Bytes c = let r = bytes_here _ c.p-1.given.1 c.requires c.of_size.ensures in record { value = r.0; results_after = r.1 }
+
+pub returns-in-NoRoom : goal.returns-in-NoRoom
+returns-in-NoRoom c = let r = told_short _ c.enum_told-1.given.1 in record { value = r.0; results_after = r.1 }
+
+pub returns-in-NotFit : goal.returns-in-NotFit
+returns-in-NotFit c = let r = told_not_fit _ c.enum_told-in-NotFit-1.given.1 in record { value = r.0; results_after = r.1 }

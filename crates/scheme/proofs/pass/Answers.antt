@@ -1,0 +1,20 @@
+-- `scheme::pass` meets its contract. The invariant: the dependencies from `i` on, from what is gathered, give what all
+-- of them give (`PassSoFar`). The measure: the dependencies left. Assumes nothing.
+use mathlib.Core.Path.{sym, ◌∙◌}
+use Rattle.scheme.proofs.Loops.{pass_start, pass_with, pass_past, pass_end}
+use Rattle.scheme.proofs.pass.Goals as goal
+use Rattle.scheme.proofs.pass.Goals.{then-within, else-within}
+
+pub loop-i-init : goal.loop-i-init
+loop-i-init c = pass_start _ _ _ _
+
+pub loop-i-preserved : goal.loop-i-preserved
+loop-i-preserved c = elim c.if-within.branch [
+  | then-within w ↦ pass_with c.requires c.loop-i.invariant c.loop-i-test.true c.if-within.all
+      (sym c.within.ensures ∙ w.if-within.true) (w.all-is ∙ w.union-all.ensures)
+  | else-within w ↦ pass_past c.requires c.loop-i.invariant c.loop-i-test.true c.if-within.all
+      (sym c.within.ensures ∙ w.if-within.false) w.all-is
+]
+
+pub returns : goal.returns
+returns c = pass_end c.loop-i.invariant c.loop-i-test.false

@@ -1,0 +1,39 @@
+use Rattle.text.proofs.Listing.{second-place, more_same, comma-within, going_next}
+use Rattle.text.proofs.Listing.{going_start, going-long, going-fails, mid-within, first_room, going-last}
+use native.Mathlib.Omega.{arith}
+use Prim.Native.Nat.{◌-◌}
+use mathlib.Core.Path.{refl}
+use Rattle.text.proofs.items_at.Goals as goal
+
+pub loop-letter-init : goal.loop-letter-init
+loop-letter-init c = going_start _ _ _ c.requires.0
+
+pub token_at-t-requires : goal.token_at-t-requires
+token_at-t-requires c = c.loop-letter.invariant.inside
+
+pub shape_of-out-in_default : goal.shape_of-out-in_default
+shape_of-out-in_default c = going-long _ _ _ c.loop-letter.invariant c.requires.1
+
+pub returns-in_default : goal.returns-in_default
+returns-in_default c = going-fails _ _ _ c.loop-letter.invariant c.requires.1 _ c.token_at-t.ensures c.no_items.ensures c.in_default.keys2
+
+pub put-place-requires : goal.put-place-requires
+put-place-requires c = first_room _ _ _ c.loop-letter.invariant c.requires.1 _ c.token_at-t.ensures _ _ _ c.t-1.given.1
+
+pub put-requires : goal.put-requires
+put-requires c = second-place _ _ _ c.loop-letter.invariant c.requires.1 _ c.token_at-t.ensures _ _ _ c.t-1.given.1 _ c.put-place.ensures.out_after c.put-place.ensures.value
+
+pub after-next-requires : goal.after-next-requires
+after-next-requires c = (mid-within _ _ _ c.loop-letter.invariant c.requires.1 _ c.token_at-t.ensures _ _ _ c.t-1.given.1).inside
+
+pub shape_of-out-then-next-eq0 : goal.shape_of-out-then-next-eq0
+shape_of-out-then-next-eq0 c = more_same _ _ _ c.loop-letter.invariant c.requires.1 _ c.token_at-t.ensures _ _ _ c.t-1.given.1 c.wide.ensures.0 c.put-place.ensures.out_after c.put-place.ensures.value c.put.ensures.out_after
+
+pub returns-then-next-eq0 : goal.returns-then-next-eq0
+returns-then-next-eq0 c = going-last _ _ _ c.loop-letter.invariant c.requires.1 _ c.token_at-t.ensures _ _ _ c.t-1.given.1 _ c.after-next.ensures c.wide.ensures.0 c.put-place.ensures.out_after c.put-place.ensures.value c.put.ensures.out_after refl c.if-next-eq0.true
+
+pub loop-letter-smaller : goal.loop-letter-smaller
+loop-letter-smaller c = omega (arith, (mid-within _ _ _ c.loop-letter.invariant c.requires.1 _ c.token_at-t.ensures _ _ _ c.t-1.given.1).after, (comma-within _ _ _ c.loop-letter.invariant c.requires.1 _ c.token_at-t.ensures _ _ _ c.t-1.given.1 _ c.after-next.ensures c.if-next-eq0.false).after, (comma-within _ _ _ c.loop-letter.invariant c.requires.1 _ c.token_at-t.ensures _ _ _ c.t-1.given.1 _ c.after-next.ensures c.if-next-eq0.false).inside)
+
+pub loop-letter-preserved : goal.loop-letter-preserved
+loop-letter-preserved c = going_next _ _ _ c.loop-letter.invariant c.requires.1 _ c.token_at-t.ensures _ _ _ c.t-1.given.1 _ c.after-next.ensures c.if-next-eq0.false c.wide.ensures.0 c.put-place.ensures.out_after c.put-place.ensures.value c.put.ensures.out_after refl

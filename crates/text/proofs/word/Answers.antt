@@ -1,0 +1,14 @@
+-- `text::word` meets its contract. The word stands there, and no letter or digit behind it (`word-is`).
+-- Assumes nothing.
+use Rattle.text.proofs.Tokens.{word_not, word-goes, word-is}
+use borrow.Author.Rules.{rules}
+use Rattle.text.proofs.word.Goals as goal
+
+pub returns-then-not-stands : goal.returns-then-not-stands
+returns-then-not-stands c = search (rules, word_not)
+
+pub returns-then-goes_on : goal.returns-then-goes_on
+returns-then-goes_on c = search (rules, word-goes)
+
+pub returns : goal.returns
+returns c = search (rules, word-is)
