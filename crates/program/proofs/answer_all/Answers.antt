@@ -12,46 +12,40 @@ use borrow.Author.Rules.{rules}
 use Rattle.program.proofs.answer_all.Goals as goal
 
 pub loop-at-init : goal.loop-at-init
-loop-at-init c = going_at_first c.args.input.now
+loop-at-init g c = going_at_first c.args.input.now
 
 pub step-step-requires : goal.step-step-requires
-step-step-requires c = (
-  c.requires.book_value,
-  (
-    memory_whole c.loop-at.invariant.levels c.loop-at.invariant.columns c.loop-at.invariant.rows (omega (arith, c.loop-at.invariant.sorting)),
-    (
-      c.requires.bytes_value,
-      c.loop-at.invariant.cells,
-      omega (
-        arith,
-        c.loop-at.invariant.text,
-      ),
-    ),
-  ),
-)
+step-step-requires g c = record {
+  book_value = c.requires.book_value;
+  memory_ready = memory_whole c.loop-at.invariant.levels c.loop-at.invariant.columns c.loop-at.invariant.rows
+      (omega (arith, c.loop-at.invariant.sorting));
+  bytes_value = (c.requires.bytes_value, c.loop-at.invariant.cells, omega (arith, c.loop-at.invariant.text));
+}
 
 pub slice_bounds-out-end : goal.slice_bounds-out-end
-slice_bounds-out-end c = omega (
+slice_bounds-out-end g c = omega (
   arith,
+  c.type_inv.out,
   printed_inside c.args.bytes.now c.args.input.now (length c.args.input.now - c.loop-at.at) c.loop-at.at c.loop-at.serial c.loop-at.invariant.serials c.step-step.ensures.value,
 )
 
 pub slice_bounds-write_all-end : goal.slice_bounds-write_all-end
-slice_bounds-write_all-end c = sym (length-take-le _ _ (omega (
+slice_bounds-write_all-end g c = sym (length-take-le _ _ (omega (
   arith,
+  c.step-step.auto.out,
   c.loop-at.invariant.text,
   printed_inside c.args.bytes.now c.args.input.now (length c.args.input.now - c.loop-at.at) c.loop-at.at c.loop-at.serial c.loop-at.invariant.serials c.step-step.ensures.value,
 )))
 
 pub overflow_add-at : goal.overflow_add-at
-overflow_add-at c = omega (
+overflow_add-at g c = omega (
   arith,
-  c.good,
+  c.well_formed,
   read_inside c.args.bytes.now c.args.input.now (length c.args.input.now - c.loop-at.at) c.loop-at.at c.loop-at.serial c.loop-at.invariant.serials c.step-step.ensures.value c.loop-at.invariant.inside,
 )
 
 pub loop-at-smaller : goal.loop-at-smaller
-loop-at-smaller c = omega (
+loop-at-smaller g c = omega (
   arith,
   read_inside c.args.bytes.now c.args.input.now (length c.args.input.now
       - c.loop-at.at) c.loop-at.at c.loop-at.serial c.loop-at.invariant.serials c.step-step.ensures.value c.loop-at.invariant.inside,
@@ -61,7 +55,7 @@ loop-at-smaller c = omega (
 )
 
 pub loop-at-preserved : goal.loop-at-preserved
-loop-at-preserved c = record {
+loop-at-preserved g c = record {
   inside = read_inside c.args.bytes.now c.args.input.now (length c.args.input.now - c.loop-at.at) c.loop-at.at c.loop-at.serial c.loop-at.invariant.serials c.step-step.ensures.value c.loop-at.invariant.inside;
   cells =
       search rules;

@@ -6,7 +6,7 @@ use Rattle.program.proofs.Going.{Going}
 use Rattle.program.proofs.answer_all.Given as goal
 
 abbrev pub invariant-loop-at : goal.invariant-loop-at
-invariant-loop-at l = Going l.directory l.initial.serial l.writer l.space l.extents l.layout l.pools l.spare l.out
+invariant-loop-at g l = Going l.input l.space l.extents l.layout l.pools l.spare l.out l.at l.serial
 
 abbrev pub decreases-loop-at : goal.decreases-loop-at
-decreases-loop-at l = length l.directory - l.spare
+decreases-loop-at g l = length l.input - l.at

@@ -1,8 +1,5 @@
--- `sheet_trials::clear` stays inside the bytes and ends: there are as many as before. The measure: the bytes left.
--- Assumes nothing.
-use mathlib.Core.Path.{◌≡◌}
-use Prim.Native.Nat.{◌-◌}
-use lib.ListN.{length}
+-- The length stays. The measure: the bytes left.
+use Rattle.std.proofs.Common.{◌≡◌, ◌-◌, length}
 use Rattle.sheet_trials.proofs.clear.Given as goal
 
 abbrev pub invariant-loop-i : goal.invariant-loop-i

@@ -1,6 +1,5 @@
--- `sheet_trials::is_as_before` stays inside the bytes and ends. The measure: the bytes left. Assumes nothing.
-use Prim.Native.Nat.{◌≤◌, ◌-◌}
-use lib.ListN.{length}
+-- The measure: the bytes left.
+use Rattle.std.proofs.Common.{◌≤◌, ◌-◌, length}
 use Rattle.sheet_trials.proofs.is_as_before.Given as goal
 
 abbrev pub invariant-loop-i : goal.invariant-loop-i

@@ -1,8 +1,5 @@
--- `answer_trials::reading::bytes_of` stays within both slices. The measure: the numbers left.
--- Assumes nothing.
-use mathlib.Core.Path.{◌≡◌}
-use Prim.Native.Nat.{◌≤◌, ◌-◌}
-use lib.ListN.{length}
+-- The bytes are within their room, whose length stays. The measure: the numbers left.
+use Rattle.std.proofs.Common.{◌≡◌, ◌≤◌, ◌-◌, length}
 use Rattle.answer_trials.proofs.reading.bytes_of.Given as goal
 
 abbrev pub invariant-loop-n : goal.invariant-loop-n

@@ -1,9 +1,5 @@
--- `answer_trials::reading::numbers_of` stays within its slices: what it stored is at most the length. The measure: the
--- bytes left.
--- Assumes nothing.
-use mathlib.Core.Path.{◌≡◌}
-use Prim.Native.Nat.{◌≤◌, ◌-◌}
-use lib.ListN.{length}
+-- The numbers are within their room, whose length stays. The measure: the bytes left.
+use Rattle.std.proofs.Common.{◌≡◌, ◌≤◌, ◌-◌, length}
 use Rattle.answer_trials.proofs.reading.numbers_of.Given as goal
 
 abbrev pub invariant-loop-i : goal.invariant-loop-i

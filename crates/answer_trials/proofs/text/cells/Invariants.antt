@@ -1,11 +1,9 @@
--- `answer_trials::text::cells` stays within the space. The measure: the cells left.
--- Assumes nothing.
-use Prim.Native.Nat.{◌≤◌, ◌-◌}
-use lib.ListN.{length}
+-- The measure: the cells left.
+use Rattle.std.proofs.Common.{◌≤◌, ◌-◌, length}
 use Rattle.answer_trials.proofs.text.cells.Given as goal
 
 abbrev pub invariant-loop-i : goal.invariant-loop-i
-invariant-loop-i l = l.initial.i ≤ length l.rt
+invariant-loop-i g l = l.i ≤ length l.space
 
 abbrev pub decreases-loop-i : goal.decreases-loop-i
-decreases-loop-i l = length l.rt - l.initial.i
+decreases-loop-i g l = length l.space - l.i

@@ -1,11 +1,9 @@
--- `trials::books_trial::books` stays within the text: each turn starts behind a line. The measure: the bytes left.
--- Assumes nothing.
-use Prim.Native.Nat.{◌≤◌, ◌-◌, ◌+◌}
-use lib.ListN.{length}
+-- The place is within the text or one behind it. The measure: the bytes left.
+use Rattle.std.proofs.Common.{◌≤◌, ◌+◌, ◌-◌, length}
 use Rattle.trials.proofs.books_trial.books.Given as goal
 
 abbrev pub invariant-loop-from : goal.invariant-loop-from
-invariant-loop-from l = l.initial.from ≤ length l.rt + 1
+invariant-loop-from g l = l.from ≤ length l.s + 1
 
 abbrev pub decreases-loop-from : goal.decreases-loop-from
-decreases-loop-from l = length l.rt - l.initial.from
+decreases-loop-from g l = length l.s - l.from

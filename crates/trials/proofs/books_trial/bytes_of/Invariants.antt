@@ -1,9 +1,5 @@
--- `trials::books_trial::bytes_of` stays within its slices: what it stored is at most the length. The measure: the bytes
--- left.
--- Assumes nothing.
-use mathlib.Core.Path.{◌≡◌}
-use Prim.Native.Nat.{◌≤◌, ◌-◌}
-use lib.ListN.{length}
+-- The bytes are within their room, whose length stays. The measure: the bytes left.
+use Rattle.std.proofs.Common.{◌≡◌, ◌≤◌, ◌-◌, length}
 use Rattle.trials.proofs.books_trial.bytes_of.Given as goal
 
 abbrev pub invariant-loop-i : goal.invariant-loop-i

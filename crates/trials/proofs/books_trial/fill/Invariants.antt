@@ -1,8 +1,5 @@
--- `trials::books_trial::fill` stays within its slice. The measure: the bytes left.
--- Assumes nothing.
-use mathlib.Core.Path.{◌≡◌}
-use Prim.Native.Nat.{◌≤◌, ◌-◌}
-use lib.ListN.{length}
+-- The length stays. The measure: the bytes left.
+use Rattle.std.proofs.Common.{◌≡◌, ◌≤◌, ◌-◌, length}
 use Rattle.trials.proofs.books_trial.fill.Given as goal
 
 abbrev pub invariant-loop-i : goal.invariant-loop-i

@@ -1,7 +1,5 @@
--- `trials::books_trial::find` stays within the slice: the place is at most its length. The measure: the bytes left.
--- Assumes nothing.
-use Prim.Native.Nat.{◌≤◌, ◌-◌}
-use lib.ListN.{length}
+-- The place is within the text. The measure: the bytes left.
+use Rattle.std.proofs.Common.{◌≤◌, ◌-◌, length}
 use Rattle.trials.proofs.books_trial.find.Given as goal
 
 abbrev pub invariant-loop-i : goal.invariant-loop-i

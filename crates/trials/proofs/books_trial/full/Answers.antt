@@ -1,11 +1,7 @@
--- `trials::books_trial::full` lends parts that are no longer than the array.
--- Assumes nothing.
-use mathlib.Core.Path.{sym, ◌∙◌}
-use Prim.Native.Nat.{ℕ}
-use native.Mathlib.Omega.{arith}
-use lib.ListN.{length-replicate}
-use lib.Seq.{length-take-le}
+-- The array is as long after `fill` as it was.
+use Rattle.std.proofs.Common.{ℕ, rules, arith}
+use lib.ListN.{length-replicate, length-take}
 use Rattle.trials.proofs.books_trial.full.Goals as goal
 
-pub slice_bounds-show-end-4 : goal.slice_bounds-show-end-4
-slice_bounds-show-end-4 c = sym (length-take-le 65536 c.fill.new.out (omega (arith, c.fill.auto.out ∙ length-replicate {A = ℕ} 65537 0)))
+pub slice_bounds-show-end-2 : goal.slice_bounds-show-end-2
+slice_bounds-show-end-2 g c = omega (arith, c.fill.auto.out, length-replicate {A = ℕ} 65537 0, length-take 65536 c.fill.new.out)

@@ -1,10 +1,9 @@
--- `trials::host_trial::all_cells` stays within the list. The measure: the cells left. Assumes nothing.
-use Prim.Native.Nat.{◌≤◌, ◌-◌}
-use lib.ListN.{length}
+-- The measure: the places left.
+use Rattle.std.proofs.Common.{◌≤◌, ◌-◌, length}
 use Rattle.trials.proofs.host_trial.all_cells.Given as goal
 
 abbrev pub invariant-loop-i : goal.invariant-loop-i
-invariant-loop-i l = l.initial.i ≤ length l.rt
+invariant-loop-i g l = l.i ≤ length l.list
 
 abbrev pub decreases-loop-i : goal.decreases-loop-i
-decreases-loop-i l = length l.rt - l.initial.i
+decreases-loop-i g l = length l.list - l.i

@@ -1,5 +1,0 @@
--- `trials::values_trial::range_line` ends and stays within its array: `i` counts to 7. Assumes nothing.
-use Rattle.trials.proofs.values_trial.range_line.Goals as goal
-
--- TODO add-i
--- add-i c = search rules
