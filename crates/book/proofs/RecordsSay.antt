@@ -69,7 +69,7 @@ module _ {says : ℕ → ℕ → BookRecord} {rs : List Record} {numbers : ℕ} 
   by_number_more : (j w : ℕ) → ((i v : ℕ) → OfBook (says i v) ≡ OfBook (says j w) → (i ≡ j) × (v ≡ w)) → j ∉ numbers
       → j < length fields
       → ByNumber says (rs ++ OfBook (says j w) ∷ []) (insert numbers j) (set fields j w)
-  by_number_more j w same new room = record { exactly = λ i v. (said i v, says_so i v); nothing_else = nothing-else }
+  by_number_more j w same new room = record { exactly = λ i v. (said i v, says_so i v); nothing_else = nothing_else_law }
     where
       here : get_or (set fields j w) j 0 ≡ w
       here = get_or-set_same fields j w 0 room
@@ -109,8 +109,8 @@ module _ {says : ℕ → ℕ → BookRecord} {rs : List Record} {numbers : ℕ} 
               Memᴰ.append_right rs
               (Memᴰ.head (ap (λ (x : ℕ). OfBook (says x v)) e ∙ ap (λ (x : ℕ). OfBook (says j x)) f))
 
-      nothing-else : (i : ℕ) → i ∉ insert numbers j → get_or (set fields j w) i 0 ≡ 0
-      nothing-else i o =
+      nothing_else_law : (i : ℕ) → i ∉ insert numbers j → get_or (set fields j w) i 0 ≡ 0
+      nothing_else_law i o =
           get_or-set_other fields j i w 0
           (λ e. in_out (subst (λ (x : ℕ). x ∈ insert numbers j) (sym e) (insert_in numbers j)) o)
           ∙ k.nothing_else i (not_in (λ m. in_out (∪_left (single j) m) o))
@@ -195,26 +195,26 @@ nothing_said = record {
 -- what a record says nothing of stays as it is; its kind is not the one of those records
 module _ (r : Record) {rs : List Record} where
   module _ {m : MaximalRecords} (v : MaximalSaid rs m) where
-    same-declared : (kind_of r ≡ 5 → ⊥) → (kind_of r ≡ 15 → ⊥)
+    same_declared : (kind_of r ≡ 5 → ⊥) → (kind_of r ≡ 15 → ⊥)
         → Gathered SaysDeclared (rs ++ r ∷ []) (take m.declarations m.declared)
-    same-declared n w = gathered_same SaysDeclared r (no_declared r n w) v.declared
+    same_declared n w = gathered_same SaysDeclared r (no_declared r n w) v.declared
 
-    same-removed : (kind_of r ≡ 6 → ⊥) → Gathered SaysRemoved (rs ++ r ∷ []) (take m.removals m.removed)
-    same-removed n = gathered_same SaysRemoved r (no_removed r n) v.removed
+    same_removed : (kind_of r ≡ 6 → ⊥) → Gathered SaysRemoved (rs ++ r ∷ []) (take m.removals m.removed)
+    same_removed n = gathered_same SaysRemoved r (no_removed r n) v.removed
 
-    same-only : (kind_of r ≡ 14 → ⊥) → (m.only ≡ true) ↔ Memᴰ (OfBook OnlyDeclared) (rs ++ r ∷ [])
-    same-only n = (
+    same_only : (kind_of r ≡ 14 → ⊥) → (m.only ≡ true) ↔ Memᴰ (OfBook OnlyDeclared) (rs ++ r ∷ [])
+    same_only n = (
       λ y. Memᴰ.append_left (r ∷ []) (v.only.0 y),
       λ i. v.only.1
           (⊎_elim (λ p. p) (λ p. absurd (no_only r n (Memᴰ.eq_of_singleton p))) (Memᴰ.append_cases rs i)),
     )
 
-    same-maximal : (kind_of r ≡ 5 → ⊥) → (kind_of r ≡ 6 → ⊥) → (kind_of r ≡ 14 → ⊥) → (kind_of r ≡ 15 → ⊥)
+    same_maximal : (kind_of r ≡ 5 → ⊥) → (kind_of r ≡ 6 → ⊥) → (kind_of r ≡ 14 → ⊥) → (kind_of r ≡ 15 → ⊥)
         → MaximalSaid (rs ++ r ∷ []) m
-    same-maximal d x o w = record {
-      declared = same-declared d w;
-      removed = same-removed x;
-      only = same-only o;
+    same_maximal d x o w = record {
+      declared = same_declared d w;
+      removed = same_removed x;
+      only = same_only o;
       declared_behind = v.declared_behind;
       removed_behind = v.removed_behind;
     }
@@ -229,23 +229,23 @@ module _ (r : Record) {rs : List Record} where
   same_table k (own_one n l a d m o b) = own_one n l a d (Memᴰ.append_left (r ∷ []) m) o b
 
   module _ {s : Scheme} (v : SchemeSaid rs s) where
-    same-attributes : (kind_of r ≡ 1 → ⊥) → ByNumber Attribute (rs ++ r ∷ []) s.attributes s.kinds
-    same-attributes n = by_number_same v.attributes (no_attribute r n)
+    same_attributes : (kind_of r ≡ 1 → ⊥) → ByNumber Attribute (rs ++ r ∷ []) s.attributes s.kinds
+    same_attributes n = by_number_same v.attributes (no_attribute r n)
 
-    same-objects : (kind_of r ≡ 2 → ⊥) → ByNumber Object (rs ++ r ∷ []) s.objects s.sets
-    same-objects n = by_number_same v.objects (no_object r n)
+    same_objects : (kind_of r ≡ 2 → ⊥) → ByNumber Object (rs ++ r ∷ []) s.objects s.sets
+    same_objects n = by_number_same v.objects (no_object r n)
 
-    same-dependencies : (kind_of r ≡ 3 → ⊥) → Gathered SaysDependency (rs ++ r ∷ []) (dependencies_of s)
-    same-dependencies n = gathered_same SaysDependency r (no_dependency r n) v.dependencies
+    same_dependencies : (kind_of r ≡ 3 → ⊥) → Gathered SaysDependency (rs ++ r ∷ []) (dependencies_of s)
+    same_dependencies n = gathered_same SaysDependency r (no_dependency r n) v.dependencies
 
     -- a record of another kind than 1, 2, 3 and 13
-    says-maximal : {m : MaximalRecords} → (kind_of r ≡ 1 → ⊥) → (kind_of r ≡ 2 → ⊥) → (kind_of r ≡ 3 → ⊥)
+    says_maximal : {m : MaximalRecords} → (kind_of r ≡ 1 → ⊥) → (kind_of r ≡ 2 → ⊥) → (kind_of r ≡ 3 → ⊥)
         → (kind_of r ≡ 13 → ⊥) → MaximalSaid (rs ++ r ∷ []) m → SchemeSaid (rs ++ r ∷ []) (with_maximal s m)
     unfolding with_maximal
-    says-maximal a o d t m = record {
-      attributes = same-attributes a;
-      objects = same-objects o;
-      dependencies = same-dependencies d;
+    says_maximal a o d t m = record {
+      attributes = same_attributes a;
+      objects = same_objects o;
+      dependencies = same_dependencies d;
       left_behind = v.left_behind;
       right_behind = v.right_behind;
       maximal = m;
@@ -262,11 +262,11 @@ module _ {rs : List Record} {s : Scheme} (w : WellFormed s) (v : SchemeSaid rs s
         attributes =
             by_number_more v.attributes id kind (λ i x e. (cc, cc)) n.new
             (omega (arith, n.below, w.arrays.kinds));
-        objects = same-objects r v (λ e. omega arith);
-        dependencies = same-dependencies r v (λ e. omega arith);
+        objects = same_objects r v (λ e. omega arith);
+        dependencies = same_dependencies r v (λ e. omega arith);
         left_behind = v.left_behind;
         right_behind = v.right_behind;
-        maximal = same-maximal r v.maximal (λ e. omega arith) (λ e. omega arith) (λ e. omega arith) (λ e. omega arith);
+        maximal = same_maximal r v.maximal (λ e. omega arith) (λ e. omega arith) (λ e. omega arith) (λ e. omega arith);
         comparisons = same_table r (λ e. omega arith) v.comparisons;
       }
 
@@ -276,14 +276,14 @@ module _ {rs : List Record} {s : Scheme} (w : WellFormed s) (v : SchemeSaid rs s
   object_said number attributes n =
       let r = OfBook (Object number attributes) in
       record {
-        attributes = same-attributes r v (λ e. omega arith);
+        attributes = same_attributes r v (λ e. omega arith);
         objects =
             by_number_more v.objects number attributes (λ i x e. (cc, cc)) n.new
             (omega (arith, n.below, w.arrays.sets));
-        dependencies = same-dependencies r v (λ e. omega arith);
+        dependencies = same_dependencies r v (λ e. omega arith);
         left_behind = v.left_behind;
         right_behind = v.right_behind;
-        maximal = same-maximal r v.maximal (λ e. omega arith) (λ e. omega arith) (λ e. omega arith) (λ e. omega arith);
+        maximal = same_maximal r v.maximal (λ e. omega arith) (λ e. omega arith) (λ e. omega arith) (λ e. omega arith);
         comparisons = same_table r (λ e. omega arith) v.comparisons;
       }
 
@@ -293,8 +293,8 @@ module _ {rs : List Record} {s : Scheme} (w : WellFormed s) (v : SchemeSaid rs s
   dependency_said left right n =
       let r = OfBook (Dependency left right) in
       record {
-        attributes = same-attributes r v (λ e. omega arith);
-        objects = same-objects r v (λ e. omega arith);
+        attributes = same_attributes r v (λ e. omega arith);
+        objects = same_objects r v (λ e. omega arith);
         dependencies =
             subst (Gathered SaysDependency (rs ++ r ∷ []))
             (sym (pairs_more s.dependencies s.left s.right left right
@@ -302,7 +302,7 @@ module _ {rs : List Record} {s : Scheme} (w : WellFormed s) (v : SchemeSaid rs s
             (gathered_more SaysDependency r (record { left = left; right = right }) refl v.dependencies);
         left_behind = zero_from_set s.dependencies s.left left v.left_behind;
         right_behind = zero_from_set s.dependencies s.right right v.right_behind;
-        maximal = same-maximal r v.maximal (λ e. omega arith) (λ e. omega arith) (λ e. omega arith) (λ e. omega arith);
+        maximal = same_maximal r v.maximal (λ e. omega arith) (λ e. omega arith) (λ e. omega arith) (λ e. omega arith);
         comparisons = same_table r (λ e. omega arith) v.comparisons;
       }
 
@@ -314,15 +314,15 @@ module _ {rs : List Record} {s : Scheme} (w : WellFormed s) (v : SchemeSaid rs s
       let m = s.maximal in
       let other : (x : ℕ) → (x ≡ 5 → ⊥) → (x ≡ 15 → ⊥) → kind_of r ≡ x → ⊥ =
       λ x a b e. ⊎_elim (λ z. a (sym e ∙ z)) (λ z. b (sym e ∙ z)) k in
-      says-maximal r v (other 1 (λ e. omega arith) (λ e. omega arith)) (other 2 (λ e. omega arith) (λ e. omega arith))
+      says_maximal r v (other 1 (λ e. omega arith) (λ e. omega arith)) (other 2 (λ e. omega arith) (λ e. omega arith))
       (other 3 (λ e. omega arith) (λ e. omega arith)) (other 13 (λ e. omega arith) (λ e. omega arith))
       (record {
         declared =
             subst (Gathered SaysDeclared (rs ++ r ∷ []))
             (sym (take_more m.declared m.declarations M (omega (arith, n.room, w.arrays.maximal.declared))))
             (gathered_more SaysDeclared r M says v.maximal.declared);
-        removed = same-removed r v.maximal (other 6 (λ e. omega arith) (λ e. omega arith));
-        only = same-only r v.maximal (other 14 (λ e. omega arith) (λ e. omega arith));
+        removed = same_removed r v.maximal (other 6 (λ e. omega arith) (λ e. omega arith));
+        only = same_only r v.maximal (other 14 (λ e. omega arith) (λ e. omega arith));
         declared_behind = zero_from_set m.declarations m.declared M v.maximal.declared_behind;
         removed_behind = v.maximal.removed_behind;
       })
@@ -333,14 +333,14 @@ module _ {rs : List Record} {s : Scheme} (w : WellFormed s) (v : SchemeSaid rs s
   removed_said M n =
       let r = OfBook (Removed M) in
       let m = s.maximal in
-      says-maximal r v (λ e. omega arith) (λ e. omega arith) (λ e. omega arith) (λ e. omega arith)
+      says_maximal r v (λ e. omega arith) (λ e. omega arith) (λ e. omega arith) (λ e. omega arith)
       (record {
-        declared = same-declared r v.maximal (λ e. omega arith) (λ e. omega arith);
+        declared = same_declared r v.maximal (λ e. omega arith) (λ e. omega arith);
         removed =
             subst (Gathered SaysRemoved (rs ++ r ∷ []))
             (sym (take_more m.removed m.removals M (omega (arith, n.room, w.arrays.maximal.removed))))
             (gathered_more SaysRemoved r M refl v.maximal.removed);
-        only = same-only r v.maximal (λ e. omega arith);
+        only = same_only r v.maximal (λ e. omega arith);
         declared_behind = v.maximal.declared_behind;
         removed_behind = zero_from_set m.removals m.removed M v.maximal.removed_behind;
       })
@@ -349,10 +349,10 @@ module _ {rs : List Record} {s : Scheme} (w : WellFormed s) (v : SchemeSaid rs s
   unfolding with_only kind_of
   only_said =
       let r = OfBook OnlyDeclared in
-      says-maximal r v (λ e. omega arith) (λ e. omega arith) (λ e. omega arith) (λ e. omega arith)
+      says_maximal r v (λ e. omega arith) (λ e. omega arith) (λ e. omega arith) (λ e. omega arith)
       (record {
-        declared = same-declared r v.maximal (λ e. omega arith) (λ e. omega arith);
-        removed = same-removed r v.maximal (λ e. omega arith);
+        declared = same_declared r v.maximal (λ e. omega arith) (λ e. omega arith);
+        removed = same_removed r v.maximal (λ e. omega arith);
         only = (λ y. Memᴰ.append_right rs (Memᴰ.head refl), λ m. refl);
         declared_behind = v.maximal.declared_behind;
         removed_behind = v.maximal.removed_behind;
@@ -365,12 +365,12 @@ module _ {rs : List Record} {s : Scheme} (w : WellFormed s) (v : SchemeSaid rs s
   table_replaced names lengths angles dates n =
       let r = OfBook (ComparisonTable names lengths angles dates) in
       record {
-        attributes = same-attributes r v (λ e. omega arith);
-        objects = same-objects r v (λ e. omega arith);
-        dependencies = same-dependencies r v (λ e. omega arith);
+        attributes = same_attributes r v (λ e. omega arith);
+        objects = same_objects r v (λ e. omega arith);
+        dependencies = same_dependencies r v (λ e. omega arith);
         left_behind = v.left_behind;
         right_behind = v.right_behind;
-        maximal = same-maximal r v.maximal (λ e. omega arith) (λ e. omega arith) (λ e. omega arith) (λ e. omega arith);
+        maximal = same_maximal r v.maximal (λ e. omega arith) (λ e. omega arith) (λ e. omega arith) (λ e. omega arith);
         comparisons =
             own_one names lengths angles dates (Memᴰ.append_right rs (Memᴰ.head refl)) (omega (arith, n.room))
             refl;
@@ -381,12 +381,12 @@ module _ {rs : List Record} {s : Scheme} (w : WellFormed s) (v : SchemeSaid rs s
   row_adds_nothing object c0 c1 c2 c3 c4 c5 =
       let r = OfBook (Row object c0 c1 c2 c3 c4 c5) in
       record {
-        attributes = same-attributes r v (λ e. omega arith);
-        objects = same-objects r v (λ e. omega arith);
-        dependencies = same-dependencies r v (λ e. omega arith);
+        attributes = same_attributes r v (λ e. omega arith);
+        objects = same_objects r v (λ e. omega arith);
+        dependencies = same_dependencies r v (λ e. omega arith);
         left_behind = v.left_behind;
         right_behind = v.right_behind;
-        maximal = same-maximal r v.maximal (λ e. omega arith) (λ e. omega arith) (λ e. omega arith) (λ e. omega arith);
+        maximal = same_maximal r v.maximal (λ e. omega arith) (λ e. omega arith) (λ e. omega arith) (λ e. omega arith);
         comparisons = same_table r (λ e. omega arith) v.comparisons;
       }
 

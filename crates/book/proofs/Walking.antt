@@ -76,22 +76,22 @@ module _ {b dir₀ dir : List ℕ} {s : Scheme} {rows at : ℕ} (v : Walking b d
     one_more y =
         omega (arith, v.counted, length-append v.places (at ∷ []), ap length (with_row_yes v.places r at y))
 
-    pub walking-stored : is_row r ≡ true → rows < length dir → Walking b dir₀ (set dir rows at) (declare s r) (rows +
+    pub walking_stored : is_row r ≡ true → rows < length dir → Walking b dir₀ (set dir rows at) (declare s r) (rows +
         1) next
-    walking-stored y l =
+    walking_stored y l =
         walking_next (set dir rows at) (rows + 1) (one_more y)
         (ap₂ (λ (d : List ℕ) (k : ℕ). set d k at) v.kept v.counted
         ∙ stored_one v.places dir₀ at (omega (arith, v.counted, walking_same))
         ∙ ap (λ (p : List ℕ). stored p dir₀) (sym (with_row_yes v.places r at y)))
 
-    pub walking-full : is_row r ≡ true → length dir ≤ rows → Walking b dir₀ dir (declare s r) (rows + 1) next
-    walking-full y l =
+    pub walking_full : is_row r ≡ true → length dir ≤ rows → Walking b dir₀ dir (declare s r) (rows + 1) next
+    walking_full y l =
         walking_next dir (rows + 1) (one_more y)
         (v.kept ∙ stored_full v.places dir₀ at (omega (arith, v.counted, walking_same))
         ∙ ap (λ (p : List ℕ). stored p dir₀) (sym (with_row_yes v.places r at y)))
 
-    pub walking-other : is_row r ≡ false → Walking b dir₀ dir (declare s r) rows next
-    walking-other n =
+    pub walking_other : is_row r ≡ false → Walking b dir₀ dir (declare s r) rows next
+    walking_other n =
         walking_next dir rows (v.counted ∙ ap length (sym (with_row_no v.places r at n)))
         (v.kept ∙ ap (λ (p : List ℕ). stored p dir₀) (sym (with_row_no v.places r at n)))
 

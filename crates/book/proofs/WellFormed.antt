@@ -144,37 +144,37 @@ module _ {s : Scheme} (v : WellFormed s) where
 
   module _ (number attributes : ℕ) (n : NewObject s number attributes) where
     -- the sets of the objects with the new one
-    object-here : get_or (set s.sets number attributes) number 0 ≡ attributes
-    object-here = get_or-set_same s.sets number attributes 0 (omega (arith, n.below, v.arrays.sets))
+    object_here : get_or (set s.sets number attributes) number 0 ≡ attributes
+    object_here = get_or-set_same s.sets number attributes 0 (omega (arith, n.below, v.arrays.sets))
 
-    object-other : (k : ℕ) → (k ≡ number → ⊥) → get_or (set s.sets number attributes) k 0 ≡ get_or s.sets k 0
-    object-other k d = get_or-set_other s.sets number k attributes 0 d
+    object_other : (k : ℕ) → (k ≡ number → ⊥) → get_or (set s.sets number attributes) k 0 ≡ get_or s.sets k 0
+    object_other k d = get_or-set_other s.sets number k attributes 0 d
 
-    object-sets : (k : ℕ) → k ∈ insert s.objects number
+    object_sets_law : (k : ℕ) → k ∈ insert s.objects number
         → ObjectSet s.attributes (get_or (set s.sets number attributes) k 0)
-    object-sets k i = ⊎_elim here other (eq_or_ne k number)
+    object_sets_law k i = ⊎_elim here other (eq_or_ne k number)
       where
         here : k ≡ number → ObjectSet s.attributes (get_or (set s.sets number attributes) k 0)
         here e =
             subst (ObjectSet s.attributes)
-            (sym (ap (λ (j : ℕ). get_or (set s.sets number attributes) j 0) e ∙ object-here))
+            (sym (ap (λ (j : ℕ). get_or (set s.sets number attributes) j 0) e ∙ object_here))
             (record { some = n.some; six = n.six })
 
         other : (k ≡ number → ⊥) → ObjectSet s.attributes (get_or (set s.sets number attributes) k 0)
         other d =
-            subst (ObjectSet s.attributes) (sym (object-other k d))
+            subst (ObjectSet s.attributes) (sym (object_other k d))
             (v.object_sets k
             (⊎_elim (λ j. j) (λ j. absurd (d (in_single j))) (∪_cases s.objects (single number) i)))
 
-    other-sets : (k : ℕ) → k ∉ insert s.objects number → get_or (set s.sets number attributes) k 0 ≡ 0
-    other-sets k o =
-        object-other k (λ e. in_out (subst (λ (j : ℕ). j ∈ insert s.objects number) (sym e) (insert_in s.objects
+    other_sets_law : (k : ℕ) → k ∉ insert s.objects number → get_or (set s.sets number attributes) k 0 ≡ 0
+    other_sets_law k o =
+        object_other k (λ e. in_out (subst (λ (j : ℕ). j ∈ insert s.objects number) (sym e) (insert_in s.objects
         number)) o)
         ∙ v.other_sets k (not_in (λ i. in_out (∪_left (single number) i) o))
 
-    object-well-formed : WellFormed (with_object s number attributes)
+    object_well_formed : WellFormed (with_object s number attributes)
     unfolding with_object
-    object-well-formed = record {
+    object_well_formed = record {
       arrays = record {
         kinds = v.arrays.kinds;
         sets = length-set s.sets number attributes ∙ v.arrays.sets;
@@ -187,8 +187,8 @@ module _ {s : Scheme} (v : WellFormed s) where
       objects_below = insert_below OBJECTS s.objects number v.objects_below n.below;
       kinds_below = v.kinds_below;
       rules = v.rules;
-      object_sets = object-sets;
-      other_sets = other-sets;
+      object_sets = object_sets_law;
+      other_sets = other_sets_law;
       sides = v.sides;
       declared_sets = λ M m. objects_wider (insert_wider s.objects number) (v.declared_sets M m);
       removed_sets = λ M m. objects_wider (insert_wider s.objects number) (v.removed_sets M m);
@@ -254,10 +254,10 @@ module _ {s : Scheme} (v : WellFormed s) where
   }
 
   module _ (M : ℕ) where
-    declared-well-formed : NewMaximal s s.maximal.declarations M
+    declared_well_formed : NewMaximal s s.maximal.declarations M
         → WellFormed (with_maximal s (with_declared s.maximal M))
     unfolding with_declared
-    declared-well-formed n =
+    declared_well_formed n =
         let m = v.arrays.maximal in
         maximal_well_formed (record {
           declared = length-set s.maximal.declared s.maximal.declarations M ∙ m.declared;
@@ -268,10 +268,10 @@ module _ {s : Scheme} (v : WellFormed s) where
         (eight_more s.maximal.declared s.maximal.declarations M m.declared n v.declared_sets)
         v.removed_sets
 
-    removed-well-formed : NewMaximal s s.maximal.removals M
+    removed_well_formed : NewMaximal s s.maximal.removals M
         → WellFormed (with_maximal s (with_removed s.maximal M))
     unfolding with_removed
-    removed-well-formed n =
+    removed_well_formed n =
         let m = v.arrays.maximal in
         maximal_well_formed (record {
           declared = m.declared;
@@ -323,16 +323,16 @@ unfolding declare
 declare_well_formed s (OfBook (Attribute id kind)) v f =
     attribute_well_formed v id kind (attribute_accepted s id kind f)
 declare_well_formed s (OfBook (Object number set)) v f =
-    object-well-formed v number set (object_accepted s number set f)
+    object_well_formed v number set (object_accepted s number set f)
 declare_well_formed s (OfBook (Dependency left right)) v f =
     dependency_well_formed v left right (dependency_accepted s left right f)
 declare_well_formed s (OfBook (Row object c0 c1 c2 c3 c4 c5)) v f = v
-declare_well_formed s (OfBook (Declared set)) v f = declared-well-formed v set (declared_accepted s set f)
-declare_well_formed s (OfBook (Removed set)) v f = removed-well-formed v set (removed_accepted s set f)
+declare_well_formed s (OfBook (Declared set)) v f = declared_well_formed v set (declared_accepted s set f)
+declare_well_formed s (OfBook (Removed set)) v f = removed_well_formed v set (removed_accepted s set f)
 declare_well_formed s (OfBook (ComparisonTable names lengths angles dates)) v f =
     table_well_formed v names lengths angles dates (table_accepted s names lengths angles dates f)
 declare_well_formed s (OfBook OnlyDeclared) v f = only_well_formed v
-declare_well_formed s (OfBook (DeclaredWide set)) v f = declared-well-formed v set (declared_wide_accepted s set f)
+declare_well_formed s (OfBook (DeclaredWide set)) v f = declared_well_formed v set (declared_wide_accepted s set f)
 declare_well_formed s (OfQuery r) v f = v
 
 pub accepted_well_formed : {b : List ℕ} {rs : List Record} {h : Held} {at : ℕ} → AcceptedAs b rs h at

@@ -29,8 +29,8 @@ use Rattle.connection.specs.Answers.{item_kinds}
 use Rattle.connection.specs.Answers.{answer_rows}
 use Rattle.connection.specs.Statements.{NamesInRange}
 use Rattle.connection.proofs.Named.{AgreeOnNames, items_agree, condition_agrees}
-use Rattle.connection.proofs.Connected.{of-connection, connection-has}
-use Rattle.connection.proofs.Ranged.{connection-cell-lt, connection-cell-ranged}
+use Rattle.connection.proofs.Connected.{of_connection_law, connection_has}
+use Rattle.connection.proofs.Ranged.{connection_cell_lt, connection_cell_ranged}
 use Rattle.connection.proofs.Choices.{Chosen, of_choices, choices_have, chosen_cells}
 use Rattle.connection.proofs.Choices.{of_rows_chosen, rows_chosen_has}
 use Rattle.connection.proofs.Picks as Picks
@@ -92,7 +92,7 @@ module _ (b : List ℕ) (bounded : (M : ℕ) → OfAttributes (family_of (read b
       record {
         picks = λ v. get_or g.choice v [];
         connected = λ v a n.
-            of-connection b (read b) (attributes_named q v) bounded
+            of_connection_law b (read b) (attributes_named q v) bounded
             (subst (Memᴰ (get_or g.choice v [])) (rows_for_named n) (chosen_row c v (range.each v a n).0));
         holding = g.passes;
         shows = g.shows;
@@ -105,9 +105,9 @@ module _ (b : List ℕ) (bounded : (M : ℕ) → OfAttributes (family_of (read b
     pick : ℕ → Row
     pick v = elim (is_empty (attributes_named q v)) [ true ↦ [] | false ↦ i.picks v ]
 
-    pick-there : (v : ℕ) → Memᴰ (pick v) (rows_for b (read b) q v)
+    pick_there : (v : ℕ) → Memᴰ (pick v) (rows_for b (read b) q v)
     unfolding pick rows_for
-    pick-there v = by (is_empty (attributes_named q v)) refl
+    pick_there v = by (is_empty (attributes_named q v)) refl
       where
         by : (t : Bool) → is_empty (attributes_named q v) ≡ t
             → Memᴰ {A = Row} (elim t [ true ↦ [] | false ↦ i.picks v ])
@@ -115,38 +115,38 @@ module _ (b : List ℕ) (bounded : (M : ℕ) → OfAttributes (family_of (read b
         by true e = Memᴰ.head refl
         by false e =
             let (a, m) = no_is_empty (attributes_named q v) e in
-            connection-has b (read b) (attributes_named q v) bounded
+            connection_has b (read b) (attributes_named q v) bounded
             (i.connected v a (((attributes_are q).attributes v a).0 m))
 
-    pick-named : {v a : ℕ} → Named q v a → pick v ≡ i.picks v
+    pick_named : {v a : ℕ} → Named q v a → pick v ≡ i.picks v
     unfolding pick
-    pick-named {v} {a} n =
+    pick_named {v} {a} n =
         ap (λ (t : Bool). elim t [ true ↦ [] | false ↦ i.picks v ]) (is_empty_no (((attributes_are q).attributes v a).1 n))
 
     choice : List Row
     choice = pick 0 ∷ pick 1 ∷ pick 2 ∷ pick 3 ∷ []
 
-    choice-chosen : Chosen b (read b) q variables choice
+    choice_chosen : Chosen b (read b) q variables choice
     unfolding choice
-    choice-chosen =
-        one (pick-there 0) (one (pick-there 1) (one (pick-there 2) (one (pick-there 3) Picks.none)))
+    choice_chosen =
+        one (pick_there 0) (one (pick_there 1) (one (pick_there 2) (one (pick_there 3) Picks.none)))
 
-    choice-picks : {v a : ℕ} → Named q v a → get_or choice v [] ≡ i.picks v
+    choice_picks : {v a : ℕ} → Named q v a → get_or choice v [] ≡ i.picks v
     unfolding choice
-    choice-picks {v} {a} n =
-        of_four (λ w. get_or choice w [] ≡ pick w) refl refl refl refl v (range.each v a n).0 ∙ pick-named n
+    choice_picks {v} {a} n =
+        of_four (λ w. get_or choice w [] ≡ pick w) refl refl refl refl v (range.each v a n).0 ∙ pick_named n
 
-    choice-agrees : AgreeOnNames q (chosen_cells q choice) (cells_of q i.picks)
+    choice_agrees : AgreeOnNames q (chosen_cells q choice) (cells_of q i.picks)
     unfolding cells_of
-    choice-agrees = record {
-      each = λ v a n. ap (λ (r : Row). cell_of (attributes_named q v) r a) (choice-picks n);
+    choice_agrees = record {
+      each = λ v a n. ap (λ (r : Row). cell_of (attributes_named q v) r a) (choice_picks n);
     }
 
-    answer-chosen : Memᴰ row (rows_chosen (read b) q (choices b (read b) q variables))
-    answer-chosen =
-        Memᴰ.cast (i.shows ∙ sym (items_agree range choice-agrees))
-        (rows_chosen_has (read b) q (choices_have b (read b) q choice-chosen)
-        (condition_agrees range choice-agrees (read b) ∙ i.holding))
+    answer_chosen : Memᴰ row (rows_chosen (read b) q (choices b (read b) q variables))
+    answer_chosen =
+        Memᴰ.cast (i.shows ∙ sym (items_agree range choice_agrees))
+        (rows_chosen_has (read b) q (choices_have b (read b) q choice_chosen)
+        (condition_agrees range choice_agrees (read b) ∙ i.holding))
 
   -- ---- columns
 
@@ -158,7 +158,7 @@ module _ (b : List ℕ) (bounded : (M : ℕ) → OfAttributes (family_of (read b
         subst (λ (r : Row). get_or r k 0 < 2 ^ 32) (sym i.shows)
         (items_lt q.items (cells_of q i.picks) (omega arith) (λ t m.
         let n = range.whole.items t m in
-        connection-cell-lt b bounded (i.connected t.variable t.attribute n)
+        connection_cell_lt b bounded (i.connected t.variable t.attribute n)
         (range.each t.variable t.attribute n).1
         (((attributes_are q).attributes t.variable t.attribute).1 n)) k);
   }
@@ -171,7 +171,7 @@ module _ (b : List ℕ) (bounded : (M : ℕ) → OfAttributes (family_of (read b
       (sym i.shows)
       (items_ranged (read b) q.items (cells_of q i.picks) (λ t m.
       let n = range.whole.items t m in
-      connection-cell-ranged b bounded (i.connected t.variable t.attribute n)
+      connection_cell_ranged b bounded (i.connected t.variable t.attribute n)
       (range.each t.variable t.attribute n).1
       (((attributes_are q).attributes t.variable t.attribute).1 n)) j h)
 
@@ -189,7 +189,7 @@ module _ (b : List ℕ) (bounded : (M : ℕ) → OfAttributes (family_of (read b
       let m = (rows_more (item_kinds (read b) q)).members (rows_chosen (read b) q (choices b (read b) q variables)) []
       given_of_kinds none_of_kinds row in (
         λ k. ⊎_elim (λ j. choice_answers j) (λ j. absurd (Memᴰ.not-nil j)) (m.0 k),
-        λ i. m.1 (inl (answer-chosen i)),
+        λ i. m.1 (inl (answer_chosen i)),
       )
 
   pub answer_ascending : Ascending (item_kinds (read b) q) (answer_rows b (read b) q)

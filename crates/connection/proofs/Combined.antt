@@ -70,9 +70,9 @@ module _ (b : List ℕ) (o : Outcome) (bounded : (M : ℕ) → OfAttributes (fam
     abbrev pub Given : Row → Type 0
     Given row = (p : Combination b o q) × Passes b o q p × (row ≡ item_cells q.items (combined b o q p))
 
-    pub answer-combined : {row : Row} → InAnswer b o q row → Given row
+    pub answer_combined : {row : Row} → InAnswer b o q row → Given row
     unfolding combined
-    answer-combined i =
+    answer_combined i =
         let P : ℕ → Pick → Type 0 = λ v p. Combines (attributes_named q v) (i.picks v) p in
         let had : (v a : ℕ) → Named q v a → (p : Pick) × P v p = λ v a n. connection_combines (i.connected v a n) in
         let no : Pick = record { object = 0; rows = [] } in
@@ -95,9 +95,9 @@ module _ (b : List ℕ) (o : Outcome) (bounded : (M : ℕ) → OfAttributes (fam
           i.shows ∙ items_agree range s,
         )
 
-    pub combined-answer : {row : Row} → Given row → InAnswer b o q row
+    pub combined_answer : {row : Row} → Given row → InAnswer b o q row
     unfolding combined
-    combined-answer (p, passes, e) =
+    combined_answer (p, passes, e) =
         let picks : ℕ → Row = λ v. map (combined b o q p v) (members ATTRIBUTES (attributes_named q v)) in
         let s : AgreeOnNames q (cells_of q picks) (combined b o q p) = shown_agree range (λ v a n. refl) in
         record {

@@ -62,9 +62,9 @@ module _ (b : List ℕ) (o : Outcome) (X : ℕ) where
         part_computed o.scheme.kinds (tables_of b o M) X (subst OfAttributes e (bounded M))
         (subst (λ (F : Family). X ⊆ union F) e i)
 
-    pub of-connection : {row : Row} → Memᴰ row (connection b o X) → InConnection b o X row
+    pub of_connection_law : {row : Row} → Memᴰ row (connection b o X) → InConnection b o X row
     unfolding connection
-    of-connection {row} m =
+    of_connection_law {row} m =
         let p = of_parts _ m in
         let l = containing_is_the_list o.scheme.sets (maximal_of o.scheme) X in
         let q = (l.IsIn p.object).0 p.there in
@@ -75,9 +75,9 @@ module _ (b : List ℕ) (o : Outcome) (X : ℕ) where
           in_part = record { joined = (computed p.object q.1).row_found row p.in_part };
         }
 
-    pub connection-has : {row : Row} → InConnection b o X row → Memᴰ row (connection b o X)
+    pub connection_has : {row : Row} → InConnection b o X row → Memᴰ row (connection b o X)
     unfolding connection
-    connection-has {row} c =
+    connection_has {row} c =
         let l = containing_is_the_list o.scheme.sets (maximal_of o.scheme) X in
         parts_have ((l.IsIn c.object).1 (c.there, c.contains))
         ((computed c.object c.contains).finds_row row c.in_part.joined)

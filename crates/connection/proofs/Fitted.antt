@@ -43,9 +43,9 @@ module _ (b : List ℕ) (o : Outcome) (bounded : (M : ℕ) → OfAttributes (fam
       (object_in_family o.scheme.sets M h i)) j
 
   module _ {M : ℕ} {ρ : ℕ → ℕ} where
-    row-fits-on : {K B : ℕ} → RowFits b o M K ρ → FitsOn B ρ (shown_on b o M K)
+    row_fits_on : {K B : ℕ} → RowFits b o M K ρ → FitsOn B ρ (shown_on b o M K)
     unfolding project
-    row-fits-on {K} r =
+    row_fits_on {K} r =
         let S : ℕ = get_or o.scheme.sets r.object 0 in
         record {
           row = projected S K r.row;
@@ -55,9 +55,9 @@ module _ (b : List ℕ) (o : Outcome) (bounded : (M : ℕ) → OfAttributes (fam
               cell_projected S r.row h i ∙ r.cells a h i;
         }
 
-    fits-on-row : {K B : ℕ} → K ⊆ B → FitsOn B ρ (shown_on b o M K) → RowFits b o M K ρ
+    fits_on_row : {K B : ℕ} → K ⊆ B → FitsOn B ρ (shown_on b o M K) → RowFits b o M K ρ
     unfolding project
-    fits-on-row {K} w f =
+    fits_on_row {K} w f =
         let (k, s, m) = of_shown_row b o M f.there in
         let p = of_project K (table_of b o k) m in
         record {
@@ -70,29 +70,29 @@ module _ (b : List ℕ) (o : Outcome) (bounded : (M : ℕ) → OfAttributes (fam
               ∙ ap (λ (row : Row). cell_of K row a) (sym p.shows) ∙ f.cells a i (w.each i);
         }
 
-    object-fits-shown : {X B : ℕ} → FitsObject b o M X ρ → AllFit B ρ (shown_tables b o M X)
-    object-fits-shown {X} {B} f T m =
+    object_fits_shown : {X B : ℕ} → FitsObject b o M X ρ → AllFit B ρ (shown_tables b o M X)
+    object_fits_shown {X} {B} f T m =
         let (K, s, e) = of_shown b o M X m in
-        subst (FitsOn B ρ) (sym e) (row-fits-on (f.each K s))
+        subst (FitsOn B ρ) (sym e) (row_fits_on (f.each K s))
 
-    shown-fits-object : {X : ℕ} → AllFit (union (family (shown_tables b o M X))) ρ (shown_tables b o M X)
+    shown_fits_object : {X : ℕ} → AllFit (union (family (shown_tables b o M X))) ρ (shown_tables b o M X)
         → Stated o.scheme.kinds (family (shown_tables b o M X)) ρ → FitsObject b o M X ρ
-    shown-fits-object {X} f g = record {
+    shown_fits_object {X} f g = record {
       each = λ K s.
           let m = shown_has b o M X s in
-          fits-on-row (union-⊇ (Memᴰ.map (λ (T : Table). T.set) m)) (f _ m);
+          fits_on_row (union-⊇ (Memᴰ.map (λ (T : Table). T.set) m)) (f _ m);
       stated = λ a K L s t n _ i j.
           g a (subst (λ (F : Family). OfTwo F a) (sym (family_unions (tables_of b o M) (kept_sets (tables_of b o M) X)))
           (kept_of_two b o M X s t n i j));
     }
 
-    object-stated : {X : ℕ} → FitsObject b o M X ρ → Stated o.scheme.kinds (family (shown_tables b o M X)) ρ
-    object-stated {X} f a w =
+    object_stated : {X : ℕ} → FitsObject b o M X ρ → Stated o.scheme.kinds (family (shown_tables b o M X)) ρ
+    object_stated {X} f a w =
         let p = of_two_keep b o M X
         (subst (λ (F : Family). OfTwo F a) (family_unions (tables_of b o M) (kept_sets (tables_of b o M) X)) w) in
-        let (c, s) = kept_shown o.scheme.sets M X p.oneKept in
+        let (c, s) = kept_shown o.scheme.sets M X p.one_kept_law in
         let low = attribute_lt s.below s.there (s.contains.each p.in_one) in
-        f.stated a p.one p.other p.oneKept p.otherKept p.apart low p.in_one p.inOther
+        f.stated a p.one p.other p.one_kept_law p.other_kept p.apart low p.in_one p.in_other
 
   -- ---- parts
 
@@ -113,18 +113,18 @@ module _ (b : List ℕ) (o : Outcome) (bounded : (M : ℕ) → OfAttributes (fam
     pub shows : row ≡ map cells (members ATTRIBUTES X)
 
   module _ {M X : ℕ} {row : Row} (i : X ⊆ attributes_of o.scheme.sets M) where
-    pub part-fits : InPart b o M X row → ShowsFitting M X row
-    part-fits p =
+    pub part_fits : InPart b o M X row → ShowsFitting M X row
+    part_fits p =
         let s = join_assigned (wanted_shown M X i) p.joined in
-        record { cells = s.assigns; fits = shown-fits-object s.all_fit s.stated; shows = s.shows }
+        record { cells = s.assigns; fits = shown_fits_object s.all_fit s.stated; shows = s.shows }
 
-    pub fits-part : {ρ : ℕ → ℕ} → FitsObject b o M X ρ → row ≡ map ρ (members ATTRIBUTES X) → InPart b o M X row
-    fits-part {ρ} f e = record {
+    pub fits_part : {ρ : ℕ → ℕ} → FitsObject b o M X ρ → row ≡ map ρ (members ATTRIBUTES X) → InPart b o M X row
+    fits_part {ρ} f e = record {
       joined =
           assigned_join (wanted_shown M X i) (record {
             assigns = ρ;
-            all_fit = object-fits-shown f;
-            stated = object-stated f;
+            all_fit = object_fits_shown f;
+            stated = object_stated f;
             shows = e;
           });
     }
@@ -138,7 +138,7 @@ module _ (b : List ℕ) (o : Outcome) (bounded : (M : ℕ) → OfAttributes (fam
 
   pub connection_cells : {X : ℕ} {row : Row} → InConnection b o X row → (ρ : ℕ → ℕ) × ShowsCells X row ρ
   connection_cells c =
-      let p = part-fits c.contains c.in_part in (
+      let p = part_fits c.contains c.in_part in (
         p.cells,
         record {
           fits = record { object = c.object; there = c.there; contains = c.contains; fits = p.fits };
@@ -151,14 +151,14 @@ module _ (b : List ℕ) (o : Outcome) (bounded : (M : ℕ) → OfAttributes (fam
     object = s.fits.object;
     there = s.fits.there;
     contains = s.fits.contains;
-    in_part = fits-part s.fits.contains s.fits.fits s.shows;
+    in_part = fits_part s.fits.contains s.fits.fits s.shows;
   }
 
   -- ---- answer rows
 
   module _ {q : Asking} (range : NamesInRange q) where
-    pub answer-fits-query : {row : Row} → InAnswer b o q row → FitsQuery b o q row
-    answer-fits-query i =
+    pub answer_fits_query : {row : Row} → InAnswer b o q row → FitsQuery b o q row
+    answer_fits_query i =
         let P : ℕ → (ℕ → ℕ) → Type 0 = λ v ρ. ShowsCells (attributes_named q v) (i.picks v) ρ in
         let had : (v a : ℕ) → Named q v a → (ρ : ℕ → ℕ) × P v ρ = λ v a n. connection_cells (i.connected v a n) in
         let at : Cells = for_each_fact q P (λ a. 0) had in
@@ -171,8 +171,8 @@ module _ (b : List ℕ) (o : Outcome) (bounded : (M : ℕ) → OfAttributes (fam
           shows = i.shows ∙ items_agree range s;
         }
 
-    pub fits-query-answer : {row : Row} → FitsQuery b o q row → InAnswer b o q row
-    fits-query-answer f =
+    pub fits_query_answer : {row : Row} → FitsQuery b o q row → InAnswer b o q row
+    fits_query_answer f =
         let picks : ℕ → Row = λ v. map (f.at v) (members ATTRIBUTES (attributes_named q v)) in
         let s : AgreeOnNames q (cells_of q picks) f.at = shown_agree range (λ v a n. refl) in
         record {

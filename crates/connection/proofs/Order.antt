@@ -222,9 +222,9 @@ module _ (b : List ℕ) (q : Asking) where
           (λ u. record { object = z.object u; rows = z.rows u }) e (named_has q range n));
     }
 
-    pub one-row : {c : List Way} {row other : Row} → GivesRow b (read b) q c row → GivesRow b (read b) q c other
+    pub one_row_law : {c : List Way} {row other : Row} → GivesRow b (read b) q c row → GivesRow b (read b) q c other
         → row ≡ other
-    one-row g h =
+    one_row_law g h =
         let s = same_cells g.combination h.combination (sym g.picked ∙ h.picked) in
         g.shows ∙ items_agree range s ∙ sym h.shows
 

@@ -20,7 +20,7 @@ module _ {A : Type 0} where
     element : A
     there : Memᴰ element xs
     rest : List A
-    restThere : Memᴰ rest ls
+    rest_there : Memᴰ rest ls
     joins : l ≡ element ∷ rest
 
   of_in_front : (xs : List A) {ls : List (List A)} {l : List A} → Memᴰ l (in_front xs ls) → InFront xs ls l
@@ -32,14 +32,14 @@ module _ {A : Type 0} where
       front : Memᴰ l (map (λ q. x ∷ q) ls) → InFront (x ∷ xs) ls l
       front i =
           let p = Memᴰ.of_map (λ q. x ∷ q) ls i in
-          record { element = x; there = Memᴰ.head refl; rest = p.0; restThere = p.1; joins = sym p.2 }
+          record { element = x; there = Memᴰ.head refl; rest = p.0; rest_there = p.1; joins = sym p.2 }
 
       later : InFront xs ls l → InFront (x ∷ xs) ls l
       later p = record {
         element = p.element;
         there = Memᴰ.tail p.there;
         rest = p.rest;
-        restThere = p.restThere;
+        rest_there = p.rest_there;
         joins = p.joins;
       }
 
@@ -69,7 +69,7 @@ module _ {I A : Type 0} (F : I → List A) where
   of_picks [] m = subst (OneOfEach []) (sym (Memᴰ.eq_of_singleton m)) none
   of_picks (i ∷ is) m =
       let p = of_in_front (F i) m in
-      subst (OneOfEach (i ∷ is)) (sym p.joins) (one p.there (of_picks is p.restThere))
+      subst (OneOfEach (i ∷ is)) (sym p.joins) (one p.there (of_picks is p.rest_there))
 
   pub picks_have : {is : List I} {l : List A} → OneOfEach is l → Memᴰ l (picks_of (map F is))
   unfolding picks_of

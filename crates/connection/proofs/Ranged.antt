@@ -49,43 +49,43 @@ module _ (b : List ℕ) where
     -- an attribute of a table shown is one of a kept set
     record HeldBy (M X a : ℕ) : Type 0 where
       set : ℕ
-      isKept : Memᴰ set (kept_for (read b).scheme.sets M X)
+      is_kept_law : Memᴰ set (kept_for (read b).scheme.sets M X)
       held : a ∈ set
 
-    shown-held : {M X a : ℕ} {T : Table} → Memᴰ T (shown_tables b (read b) M X) → a ∈ T.set → HeldBy M X a
-    shown-held {M} {X} {a} m i =
+    shown_held : {M X a : ℕ} {T : Table} → Memᴰ T (shown_tables b (read b) M X) → a ∈ T.set → HeldBy M X a
+    shown_held {M} {X} {a} m i =
         let (K, s, e) = of_shown b (read b) M X m in
-        record { set = K; isKept = s; held = subst (λ (U : Table). a ∈ U.set) e i }
+        record { set = K; is_kept_law = s; held = subst (λ (U : Table). a ∈ U.set) e i }
 
-    fitting-held : {X a : ℕ} {ρ : ℕ → ℕ} (f : FitsVariable b (read b) X ρ) → a ∈ X → HeldBy f.object X a
-    fitting-held {X} {a} f i =
+    fitting_held : {X a : ℕ} {ρ : ℕ → ℕ} (f : FitsVariable b (read b) X ρ) → a ∈ X → HeldBy f.object X a
+    fitting_held {X} {a} f i =
         let Us : List Table = shown_tables b (read b) f.object X in
         let s = in_union (family Us) ((wanted_shown b (read b) bounded f.object X f.contains).each i) in
         let p = Memᴰ.of_map (λ (T : Table). T.set) Us s.there in
-        shown-held p.1 (subst (λ (S : ℕ). a ∈ S) (sym p.2) s.held)
+        shown_held p.1 (subst (λ (S : ℕ). a ∈ S) (sym p.2) s.held)
 
-    held-ranged : {M X a : ℕ} {ρ : ℕ → ℕ} → FitsObject b (read b) M X ρ → a < ATTRIBUTES → HeldBy M X a → Ranged a (ρ a)
-    held-ranged {M} {X} {a} f h q =
-        let r = f.each q.set q.isKept in
+    held_ranged : {M X a : ℕ} {ρ : ℕ → ℕ} → FitsObject b (read b) M X ρ → a < ATTRIBUTES → HeldBy M X a → Ranged a (ρ a)
+    held_ranged {M} {X} {a} f h q =
+        let r = f.each q.set q.is_kept_law in
         subst (Ranged a) (r.cells a h q.held)
         (cell_ranged {M = M} r.shown.below r.shown.there r.there (r.shown.contains.each q.held))
 
-    fitting-ranged : {X a : ℕ} {ρ : ℕ → ℕ} → FitsVariable b (read b) X ρ → a < ATTRIBUTES → a ∈ X → Ranged a (ρ a)
-    fitting-ranged f h i = held-ranged f.fits h (fitting-held f i)
+    fitting_ranged : {X a : ℕ} {ρ : ℕ → ℕ} → FitsVariable b (read b) X ρ → a < ATTRIBUTES → a ∈ X → Ranged a (ρ a)
+    fitting_ranged f h i = held_ranged f.fits h (fitting_held f i)
 
-    pub fitting-lt : {X a : ℕ} {ρ : ℕ → ℕ} → FitsVariable b (read b) X ρ → a < ATTRIBUTES → a ∈ X → ρ a < 2 ^ 32
-    fitting-lt {a = a} {ρ = ρ} f h i = in_range_lt (get_or (read b).scheme.kinds a 0) (ρ a) (fitting-ranged f h i)
+    pub fitting_lt : {X a : ℕ} {ρ : ℕ → ℕ} → FitsVariable b (read b) X ρ → a < ATTRIBUTES → a ∈ X → ρ a < 2 ^ 32
+    fitting_lt {a = a} {ρ = ρ} f h i = in_range_lt (get_or (read b).scheme.kinds a 0) (ρ a) (fitting_ranged f h i)
 
     -- ---- rows of the connection
 
-    pub connection-cell-ranged : {X a : ℕ} {row : Row} → InConnection b (read b) X row → a < ATTRIBUTES → a ∈ X
+    pub connection_cell_ranged : {X a : ℕ} {row : Row} → InConnection b (read b) X row → a < ATTRIBUTES → a ∈ X
         → Ranged a (cell_of X row a)
-    connection-cell-ranged {X} {a} c h i =
+    connection_cell_ranged {X} {a} c h i =
         let (ρ, s) = connection_cells b (read b) bounded c in
         subst (Ranged a) (sym (ap (λ (r : Row). cell_of X r a) s.shows ∙ cell_of_map ρ h i))
-        (fitting-ranged s.fits h i)
+        (fitting_ranged s.fits h i)
 
-    pub connection-cell-lt : {X a : ℕ} {row : Row} → InConnection b (read b) X row → a < ATTRIBUTES → a ∈ X
+    pub connection_cell_lt : {X a : ℕ} {row : Row} → InConnection b (read b) X row → a < ATTRIBUTES → a ∈ X
         → cell_of X row a < 2 ^ 32
-    connection-cell-lt {X} {a} {row} c h i =
-        in_range_lt (get_or (read b).scheme.kinds a 0) (cell_of X row a) (connection-cell-ranged c h i)
+    connection_cell_lt {X} {a} {row} c h i =
+        in_range_lt (get_or (read b).scheme.kinds a 0) (cell_of X row a) (connection_cell_ranged c h i)

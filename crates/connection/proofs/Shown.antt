@@ -104,11 +104,11 @@ module _ (b : List ℕ) (o : Outcome) (M X : ℕ) where
   pub record TwoKeep (a : ℕ) : Type 0 where
     pub one : ℕ
     pub other : ℕ
-    pub oneKept : Memᴰ one (kept_for o.scheme.sets M X)
-    pub otherKept : Memᴰ other (kept_for o.scheme.sets M X)
+    pub one_kept_law : Memᴰ one (kept_for o.scheme.sets M X)
+    pub other_kept : Memᴰ other (kept_for o.scheme.sets M X)
     pub apart : one ≡ other → ⊥
     pub in_one : a ∈ one
-    pub inOther : a ∈ other
+    pub in_other : a ∈ other
 
   pub of_two_keep : {a : ℕ} → OfTwo kept_ones a → TwoKeep a
   unfolding kept
@@ -117,8 +117,8 @@ module _ (b : List ℕ) (o : Outcome) (M X : ℕ) where
       record {
         one = at kept_ones w.first;
         other = at kept_ones w.second;
-        oneKept = of_tables_kept (mem_at kept_ones w.first h);
-        otherKept = of_tables_kept (mem_at kept_ones w.second w.there);
+        one_kept_law = of_tables_kept (mem_at kept_ones w.first h);
+        other_kept = of_tables_kept (mem_at kept_ones w.second w.there);
         apart = λ z. omega (
           arith,
           w.before,
@@ -126,5 +126,5 @@ module _ (b : List ℕ) (o : Outcome) (M X : ℕ) where
               w.second h w.there z,
         );
         in_one = w.in_first;
-        inOther = w.in_second;
+        in_other = w.in_second;
       }

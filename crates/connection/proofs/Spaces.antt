@@ -42,8 +42,8 @@ module _ (w : ℕ) where
     rows_back =
         ap (rows_in w (length l)) (with_fits w l space fit) ∙ rows_of_cells l (drop (length l * w) space) wide
 
-    pub behind-kept : drop (length l * w) (with_rows w l space) ≡ drop (length l * w) space
-    behind-kept =
+    pub behind_kept : drop (length l * w) (with_rows w l space) ≡ drop (length l * w) space
+    behind_kept =
         ap (drop (length l * w)) (with_fits w l space fit)
         ∙ drop_at (cells_of l) (drop (length l * w) space) (length l * w) (cells_long l wide)
 

@@ -29,19 +29,19 @@ use Rattle.connection.specs.Answering.{query_read, rows_answered}
 use Rattle.connection.specs.Outcomes.{item_count, AnswerNumberMeans, Demand1, PromiseE}
 use Rattle.connection.proofs.InRange.{read_in_range}
 use Rattle.connection.proofs.Shown.{of_shown_row, row_of_object, tables_kept}
-use Rattle.connection.proofs.Connected.{of-connection, connection-has}
-use Rattle.connection.proofs.Fitted.{part-fits, fits-part, answer-fits-query, fits-query-answer}
+use Rattle.connection.proofs.Connected.{of_connection_law, connection_has}
+use Rattle.connection.proofs.Fitted.{part_fits, fits_part, answer_fits_query, fits_query_answer}
 use Rattle.connection.proofs.Answered.{answer_rows_fact, answer_ascending, answer_rows_of_kinds, only_answer}
 use Rattle.connection.proofs.Answered.{answer_rows_ranged}
 use Rattle.connection.proofs.Choices.{meets_each, each_meets}
-use Rattle.connection.proofs.Combined.{answer-combined, combined-answer}
-use Rattle.connection.proofs.Order.{combinations_size, of_combinations, combinations_have, one-row}
+use Rattle.connection.proofs.Combined.{answer_combined, combined_answer}
+use Rattle.connection.proofs.Order.{combinations_size, of_combinations, combinations_have, one_row_law}
 use Rattle.connection.proofs.Order.{combinations_once, combinations_in_order, combinations_only}
 use Rattle.connection.proofs.Spaces.{AllWide}
 use Rattle.connection.proofs.Outcomes.{number_of_book, number_of_query, number_fourteen, number_thirteen}
 use Rattle.connection.proofs.Outcomes.{number_full, number_otherwise, number_one_of, number_not_eight}
 use Rattle.connection.proofs.Outcomes.{outcome_there, outcome_only}
-use Rattle.connection.proofs.Outcomes.{cells-as-many, rows-in-front, cells-behind}
+use Rattle.connection.proofs.Outcomes.{cells_as_many, rows_in_front, cells_behind}
 
 -- ---- names: those of a query that was read over a book are in range, whatever its number
 
@@ -56,7 +56,7 @@ bounded b M = family_of_attributes (scheme_well_formed b).well_formed M
 
 pub connection_listed : (b : List ℕ) (X : ℕ) → ConnectionListed b X
 connection_listed b X = record {
-  rows = λ row. (of-connection b (read b) X (bounded b), connection-has b (read b) X (bounded b));
+  rows = λ row. (of_connection_law b (read b) X (bounded b), connection_has b (read b) X (bounded b));
 }
 
 -- ---- answer rows
@@ -98,7 +98,7 @@ condition_means o at = record {
 
 pub combinations_give : (b : List ℕ) (q : Asking) → NamesInRange q → CombinationsGive b q
 combinations_give b q range = record {
-  rows = λ row. (answer-combined b (read b) (bounded b) range, combined-answer b (read b) (bounded b) range);
+  rows = λ row. (answer_combined b (read b) (bounded b) range, combined_answer b (read b) (bounded b) range);
 }
 
 -- ---- the list of combinations
@@ -123,7 +123,7 @@ combinations_listed b q range = record {
         ((answer_listed b q range).rows row).1
         (((combinations_give b q range).rows row).1 (g.combination, g.passes, g.shows)),
   );
-  one_row = λ c row other. one-row b q range;
+  one_row = λ c row other. one_row_law b q range;
 }
 
 pub combinations_ordered : (b : List ℕ) (Xs : List ℕ) → CombinationsOrdered b Xs
@@ -137,7 +137,7 @@ combinations_ordered b Xs = record {
 
 pub answer_fits : (b : List ℕ) (q : Asking) → NamesInRange q → AnswerFits b q
 answer_fits b q range = record {
-  rows = λ row. (answer-fits-query b (read b) (bounded b) range, fits-query-answer b (read b) (bounded b) range);
+  rows = λ row. (answer_fits_query b (read b) (bounded b) range, fits_query_answer b (read b) (bounded b) range);
 }
 
 -- ---- kept sets of one object
@@ -172,9 +172,9 @@ pub demand1 : (b q : List ℕ) (serial : ℕ) (space : List ℕ) → Demand1 b q
 demand1 b q serial space = record {
   there = outcome_there b q serial space;
   only = λ a after. outcome_only b q serial space;
-  as_many = cells-as-many b q serial space (rows_wide b q);
-  front = rows-in-front b q serial space (rows_wide b q);
-  behind = cells-behind b q serial space (rows_wide b q);
+  as_many = cells_as_many b q serial space (rows_wide b q);
+  front = rows_in_front b q serial space (rows_wide b q);
+  behind = cells_behind b q serial space (rows_wide b q);
 }
 
 -- ---- promise e
@@ -189,8 +189,8 @@ promise_e b z M m X some inside =
       shown = λ K row. (of_shown_row b (read b) M, λ (k, s, m). row_of_object b (read b) M s m);
       part = λ row. (
         λ j.
-            let f = part-fits b (read b) (bounded b) inside (record { joined = j }) in
+            let f = part_fits b (read b) (bounded b) inside (record { joined = j }) in
             (f.cells, f.fits, f.shows),
-        λ (at, f, e). (fits-part b (read b) (bounded b) inside f e).joined,
+        λ (at, f, e). (fits_part b (read b) (bounded b) inside f e).joined,
       );
     }

@@ -116,54 +116,54 @@ deep c d = record { condition = c; depth = d }
 
 module _ (s : List ℕ) where
   module _ (n at : ℕ) where
-    or-of : {mid : ℕ} {c : Deep} → and_at n s at ≡ parsed c mid → or_at (suc n) s at ≡ or_more n s c mid
+    or_of : {mid : ℕ} {c : Deep} → and_at n s at ≡ parsed c mid → or_at (suc n) s at ≡ or_more n s c mid
     unfolding or_at
-    or-of e = then_parsed _ e
+    or_of e = then_parsed _ e
 
-    pub or-end : (c : Deep) → behind Or (next_at s at) ≡ none → or_more (suc n) s c at ≡ parsed c at
+    pub or_end : (c : Deep) → behind Or (next_at s at) ≡ none → or_more (suc n) s c at ≡ parsed c at
     unfolding or_at
-    or-end c h = if_none _ _ h
+    or_end c h = if_none _ _ h
 
-    or-on : {next end : ℕ} (c : Deep) {e : Deep} → next_at s at ≡ found (word Or) next → and_at n s next ≡ parsed e end
+    or_on : {next end : ℕ} (c : Deep) {e : Deep} → next_at s at ≡ found (word Or) next → and_at n s next ≡ parsed e end
         → or_more (suc n) s c at
         ≡ or_more n s (deep (either c.condition e.condition) (max c.depth e.depth)) end
     unfolding or_at
-    or-on c h k = if_some _ _ (takes_word s at Or h) ∙ then_parsed _ k
+    or_on c h k = if_some _ _ (takes_word s at Or h) ∙ then_parsed _ k
 
-    and-of : {mid : ℕ} {c : Deep} → not_at n s at ≡ parsed c mid → and_at (suc n) s at ≡ and_more n s c mid
+    and_of : {mid : ℕ} {c : Deep} → not_at n s at ≡ parsed c mid → and_at (suc n) s at ≡ and_more n s c mid
     unfolding or_at
-    and-of e = then_parsed _ e
+    and_of e = then_parsed _ e
 
-    and-end : (c : Deep) → behind And (next_at s at) ≡ none → and_more (suc n) s c at ≡ parsed c at
+    and_end : (c : Deep) → behind And (next_at s at) ≡ none → and_more (suc n) s c at ≡ parsed c at
     unfolding or_at
-    and-end c h = if_none _ _ h
+    and_end c h = if_none _ _ h
 
-    and-on : {next end : ℕ} (c : Deep) {e : Deep} → next_at s at ≡ found (word And) next → not_at n s next ≡ parsed e end
+    and_on : {next end : ℕ} (c : Deep) {e : Deep} → next_at s at ≡ found (word And) next → not_at n s next ≡ parsed e end
         → and_more (suc n) s c at
         ≡ and_more n s (deep (both c.condition e.condition) (max c.depth e.depth)) end
     unfolding or_at
-    and-on c h k = if_some _ _ (takes_word s at And h) ∙ then_parsed _ k
+    and_on c h k = if_some _ _ (takes_word s at And h) ∙ then_parsed _ k
 
-    not-of : {end : ℕ} {c : Deep} → behind Not (next_at s at) ≡ none → primary_at n s at ≡ parsed c end
+    not_of : {end : ℕ} {c : Deep} → behind Not (next_at s at) ≡ none → primary_at n s at ≡ parsed c end
         → not_at (suc n) s at ≡ parsed c end
     unfolding or_at
-    not-of h e = if_none _ _ h ∙ e
+    not_of h e = if_none _ _ h ∙ e
 
     not_on : {next end : ℕ} {c : Deep} → next_at s at ≡ found (word Not) next → not_at n s next ≡ parsed c end
         → not_at (suc n) s at ≡ parsed (deep (negated c.condition) c.depth) end
     unfolding or_at
     not_on h e = if_some _ _ (takes_word s at Not h) ∙ then_parsed _ e
 
-    primary-of : {end : ℕ} {c : Deep} → behind Opening (next_at s at) ≡ none → comparison_at s at ≡ parsed c end
+    primary_of : {end : ℕ} {c : Deep} → behind Opening (next_at s at) ≡ none → comparison_at s at ≡ parsed c end
         → primary_at (suc n) s at ≡ parsed c end
     unfolding or_at
-    primary-of h e = if_none _ _ h ∙ e
+    primary_of h e = if_none _ _ h ∙ e
 
-    primary-on : {next mid end : ℕ} {c : Deep} → next_at s at ≡ found (word Opening) next → or_at n s next ≡ parsed c mid
+    primary_on : {next mid end : ℕ} {c : Deep} → next_at s at ≡ found (word Opening) next → or_at n s next ≡ parsed c mid
         → next_at s mid ≡ found (word Closing) end
         → primary_at (suc n) s at ≡ parsed (deep c.condition (suc c.depth)) end
     unfolding or_at
-    primary-on {mid = mid} h e k =
+    primary_on {mid = mid} h e k =
         if_some _ _ (takes_word s at Opening h) ∙ then_parsed _ e ∙ if_some _ _ (takes_word s mid Closing k)
 
   -- what each parser gives for pieces that are derived, at a large enough number. The chains go on with k
@@ -188,11 +188,11 @@ module _ (s : List ℕ) where
 
   and_finish : (k next : ℕ) (c : Deep) → 1 ≤ k → behind And (next_at s next) ≡ none → and_more k s c next ≡ parsed c next
   and_finish zero next c h e = absurd (omega arith)
-  and_finish (suc k) next c h e = and-end k next c e
+  and_finish (suc k) next c h e = and_end k next c e
 
   or_finish : (k next : ℕ) (c : Deep) → 1 ≤ k → behind Or (next_at s next) ≡ none → or_more k s c next ≡ parsed c next
   or_finish zero next c h e = absurd (omega arith)
-  or_finish (suc k) next c h e = or-end k next c e
+  or_finish (suc k) next c h e = or_end k next c e
 
   and_whole : (ps : List Piece) (c : Condition) (d : ℕ) → AndGives ps c d → (at next n : ℕ) → Finds s at ps next
       → behind And (next_at s next) ≡ none → 4 * length ps + 3 ≤ n → and_at n s at ≡ parsed (deep c d) next
@@ -216,14 +216,14 @@ module _ (s : List ℕ) where
           → (k : ℕ) × ((n ≤ k + length ps) × (or_at n s at ≡ or_more k s (deep c d) next))
       go at next zero f e l = absurd (omega arith)
       go at next (suc n) f e l =
-          (n, (omega (arith, h.some'), or-of n at (and_whole ps c d h at next n f e (omega arith))))
+          (n, (omega (arith, h.some'), or_of n at (and_whole ps c d h at next n f e (omega arith))))
 
   more_or_step : (mid next k : ℕ) (qs : List Piece) (c e : Condition) (d g : ℕ) → AndGives qs e g
       → Ahead s mid (word Or) qs next → behind And (next_at s next) ≡ none → 4 * length qs + 4 ≤ k
       → (j : ℕ) × ((k ≡ suc j) × (or_more k s (deep c d) mid ≡ or_more j s (deep (either c e) (max d g)) next))
   more_or_step mid next zero qs c e d g h a stop l = absurd (omega arith)
   more_or_step mid next (suc j) qs c e d g h a stop l =
-      (j, (refl, or-on j mid (deep c d) a.is (and_whole qs e g h a.mid next j a.rest stop (omega arith))))
+      (j, (refl, or_on j mid (deep c d) a.is (and_whole qs e g h a.mid next j a.rest stop (omega arith))))
 
   more_or : (ps qs : List Piece) (c e : Condition) (d g : ℕ) → OrGives ps c d → AndGives qs e g
       → OrGives (ps ++ word Or ∷ qs) (either c e) (max d g)
@@ -248,14 +248,14 @@ module _ (s : List ℕ) where
       go : (at next n : ℕ) → Finds s at ps next → 4 * length ps + 3 ≤ n
           → (k : ℕ) × ((n ≤ k + length ps) × (and_at n s at ≡ and_more k s (deep c d) next))
       go at next zero f l = absurd (omega arith)
-      go at next (suc n) f l = (n, (omega (arith, h.some'), and-of n at (h.gives at next n f (omega arith))))
+      go at next (suc n) f l = (n, (omega (arith, h.some'), and_of n at (h.gives at next n f (omega arith))))
 
   more_and_step : (mid next k : ℕ) (qs : List Piece) (c e : Condition) (d g : ℕ) → NotGives qs e g
       → Ahead s mid (word And) qs next → 4 * length qs + 3 ≤ k
       → (j : ℕ) × ((k ≡ suc j) × (and_more k s (deep c d) mid ≡ and_more j s (deep (both c e) (max d g)) next))
   more_and_step mid next zero qs c e d g h a l = absurd (omega arith)
   more_and_step mid next (suc j) qs c e d g h a l =
-      (j, (refl, and-on j mid (deep c d) a.is (h.gives a.mid next j a.rest (omega arith))))
+      (j, (refl, and_on j mid (deep c d) a.is (h.gives a.mid next j a.rest (omega arith))))
 
   more_and : (ps qs : List Piece) (c e : Condition) (d g : ℕ) → AndGives ps c d → NotGives qs e g
       → AndGives (ps ++ word And ∷ qs) (both c e) (max d g)
@@ -277,7 +277,7 @@ module _ (s : List ℕ) where
     where
       go : (at next n : ℕ) → Finds s at ps next → 4 * length ps + 2 ≤ n → not_at n s at ≡ parsed (deep c d) next
       go at next zero f l = absurd (omega arith)
-      go at next (suc n) f l = not-of n at (h.begins at next f) (h.gives at next n f (omega arith))
+      go at next (suc n) f l = not_of n at (h.begins at next f) (h.gives at next n f (omega arith))
 
   not_more : (ps : List Piece) (c : Condition) (d : ℕ) → NotGives ps c d → NotGives (word Not ∷ ps) (negated c) d
   not_more ps c d h = record { some' = omega arith; gives = go }
@@ -298,7 +298,7 @@ module _ (s : List ℕ) where
       go : (at next n : ℕ) → Finds s at ps next → 4 * length ps + 1 ≤ n
           → primary_at n s at ≡ parsed (deep (compared x) 0) next
       go at next zero f l = absurd (omega arith)
-      go at next (suc n) f l = primary-of n at (comparison_begins t s at next f Opening) (comparison_complete t s at next f)
+      go at next (suc n) f l = primary_of n at (comparison_begins t s at next f Opening) (comparison_complete t s at next f)
 
   in_parentheses : (ps : List Piece) (c : Condition) (d : ℕ) → OrGives ps c d
       → PrimaryGives (word Opening ∷ (ps ++ word Closing ∷ [])) c (suc d)
@@ -321,7 +321,7 @@ module _ (s : List ℕ) where
           (takes_none s p.mid And b.is (unfold behind word_number in refl))
           (takes_none s p.mid Or b.is (unfold behind word_number in refl)) (omega arith) in
           let there = finds_nil b.rest in
-          primary-on n at a.is inner
+          primary_on n at a.is inner
           (subst (λ (m : ℕ). next_at s p.mid ≡ found (word Closing) m) there b.is)
 
   or_gives : {ps : List Piece} {c : Condition} {d : ℕ} → IsOr ps c d → OrGives ps c d

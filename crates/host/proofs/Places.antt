@@ -52,20 +52,20 @@ module _ (b q : List ℕ) (serial : ℕ) (space results : List ℕ) where
   given = answer_results b q serial (length space) results
 
   module _ (h : 4 ≤ length results) where
-    given-here : given ≡ answer_cells (answer_of b q serial (length space)) ++ drop 4 results
+    given_here : given ≡ answer_cells (answer_of b q serial (length space)) ++ drop 4 results
     unfolding answer_results
-    given-here = rw (answer_results, le-ltb (length results) 4 h)
+    given_here = rw (answer_results, le-ltb (length results) 4 h)
 
-    four-given : {a : Answer} → answer_of b q serial (length space) ≡ a
+    four_given : {a : Answer} → answer_of b q serial (length space) ≡ a
         → FourResults given a.refusal a.rows a.serial a.read
-    four-given {a} e =
+    four_given {a} e =
         subst (λ (r : List ℕ). FourResults r a.refusal a.rows a.serial a.read)
-        (sym (given-here ∙ ap (λ (x : Answer). answer_cells x ++ drop 4 results) e)) (four_here a (drop 4 results))
+        (sym (given_here ∙ ap (λ (x : Answer). answer_cells x ++ drop 4 results) e)) (four_here a (drop 4 results))
 
-    pub refusal-given : (n : ℕ) → 0 < n → number b q serial (length space) ≡ n → FourResults given n 0 serial 0
+    pub refusal_given : (n : ℕ) → 0 < n → number b q serial (length space) ≡ n → FourResults given n 0 serial 0
     unfolding answer_of refused
-    refusal-given n k z =
-        four-given {a = refused n serial} (rw (
+    refusal_given n k z =
+        four_given {a = refused n serial} (rw (
           answer_of,
           ne_eqb (number b q serial (length space)) 0 (λ y. omega (arith, y, z, k)),
           z,
@@ -74,7 +74,7 @@ module _ (b q : List ℕ) (serial : ℕ) (space results : List ℕ) where
     pub answer_given : number b q serial (length space) ≡ 0
         → FourResults given 0 (length (rows_answered b q)) (serial + 1) (query_read (read b) q).read
     unfolding answer_of
-    answer_given z = four-given (rw (answer_of, eq-eqb (number b q serial (length space)) 0 z))
+    answer_given z = four_given (rw (answer_of, eq-eqb (number b q serial (length space)) 0 z))
 
   none_given : length results < 4 → given ≡ results
   unfolding answer_results
@@ -84,14 +84,14 @@ module _ (b q : List ℕ) (serial : ℕ) (space results : List ℕ) where
   unfolding answer_cells
   answer_others i k =
       ⊎_elim (λ l. ap (λ (r : List ℕ). get_or r i 0) (none_given l))
-      (λ h. ap (λ (r : List ℕ). get_or r i 0) (given-here h)
+      (λ h. ap (λ (r : List ℕ). get_or r i 0) (given_here h)
       ∙ behind_front (answer_cells (answer_of b q serial (length space))) results i k) (lt_or_le (length results) 4)
 
   pub answer_as_many : length given ≡ length results
   unfolding answer_cells
   answer_as_many =
       ⊎_elim (λ l. ap length (none_given l))
-      (λ h. ap length (given-here h) ∙ as_many (answer_cells (answer_of b q serial (length space))) results h)
+      (λ h. ap length (given_here h) ∙ as_many (answer_cells (answer_of b q serial (length space))) results h)
       (lt_or_le (length results) 4)
 
   pub answer_done : 4 ≤ length results
@@ -137,70 +137,70 @@ result_stays NotFit results f = refl
 module _ (p : Printed) (after before results : List ℕ) where
   -- no place for the result
   module _ (l : length results < 1) where
-    short-status : given_status p results ≡ 1
+    short_status : given_status p results ≡ 1
     unfolding given_status
-    short-status = rw (given_status, lt-ltb (length results) 1 l)
+    short_status = rw (given_status, lt-ltb (length results) 1 l)
 
-    short-results : given_results p results ≡ results
+    short_results : given_results p results ≡ results
     unfolding given_results
-    short-results = rw (given_results, lt-ltb (length results) 1 l)
+    short_results = rw (given_results, lt-ltb (length results) 1 l)
 
-    pub given-short : (given_status p results ≡ 1)
+    pub given_short : (given_status p results ≡ 1)
         × ((given_bytes after before results ≡ before) × (given_results p results ≡ results))
     unfolding given_bytes
-    given-short = (short-status, (rw (given_bytes, lt-ltb (length results) 1 l), short-results))
+    given_short = (short_status, (rw (given_bytes, lt-ltb (length results) 1 l), short_results))
 
   -- a place for it
   module _ (h : 1 ≤ length results) where
-    told-status : given_status p results ≡ give_status p
+    told_status : given_status p results ≡ give_status p
     unfolding given_status
-    told-status = rw (given_status, le-ltb (length results) 1 h)
+    told_status = rw (given_status, le-ltb (length results) 1 h)
 
-    told-results : given_results p results ≡ give_results p results
+    told_results : given_results p results ≡ give_results p results
     unfolding given_results
-    told-results = rw (given_results, le-ltb (length results) 1 h)
+    told_results = rw (given_results, le-ltb (length results) 1 h)
 
-    pub given-bytes : given_bytes after before results ≡ after
+    pub given_bytes_law : given_bytes after before results ≡ after
     unfolding given_bytes
-    given-bytes = rw (given_bytes, le-ltb (length results) 1 h)
+    given_bytes_law = rw (given_bytes, le-ltb (length results) 1 h)
 
-    pub given-count : (n : ℕ) → p ≡ Bytes n → get_or (given_results p results) 0 0 ≡ n
+    pub given_count : (n : ℕ) → p ≡ Bytes n → get_or (given_results p results) 0 0 ≡ n
     unfolding give_results
-    given-count n e =
-        ap (λ (r : List ℕ). get_or r 0 0) (told-results ∙ ap (λ (x : Printed). give_results x results) e)
+    given_count n e =
+        ap (λ (r : List ℕ). get_or r 0 0) (told_results ∙ ap (λ (x : Printed). give_results x results) e)
 
-    pub given-not-fit : p ≡ NotFit → (given_status p results ≡ 2) × (given_results p results ≡ results)
+    pub given_not_fit : p ≡ NotFit → (given_status p results ≡ 2) × (given_results p results ≡ results)
     unfolding give_status give_results
-    given-not-fit e = (
-      told-status ∙ ap give_status e,
-      told-results ∙ ap (λ (x : Printed). give_results x results) e,
+    given_not_fit e = (
+      told_status ∙ ap give_status e,
+      told_results ∙ ap (λ (x : Printed). give_results x results) e,
     )
 
   pub given_done : (given_status p results ≡ 0) ↔ ((1 ≤ length results) × ((n : ℕ) × (p ≡ Bytes n)))
   unfolding give_status
   given_done = (
     λ e.
-        ⊎_elim (λ l. absurd (omega (arith, e, short-status l))) (λ h. (h, printed_of p (sym (told-status h) ∙ e)))
+        ⊎_elim (λ l. absurd (omega (arith, e, short_status l))) (λ h. (h, printed_of p (sym (told_status h) ∙ e)))
         (lt_or_le (length results) 1),
-    λ (h, (n, e)). told-status h ∙ ap give_status e,
+    λ (h, (n, e)). told_status h ∙ ap give_status e,
   )
 
   pub given_no_room : p ≡ NoRoom → (given_status p results ≡ 1) × (given_results p results ≡ results)
   unfolding give_status give_results
   given_no_room e =
-      ⊎_elim (λ l. (short-status l, short-results l))
-      (λ h. (told-status h ∙ ap give_status e, told-results h ∙ ap (λ (x : Printed). give_results x results) e))
+      ⊎_elim (λ l. (short_status l, short_results l))
+      (λ h. (told_status h ∙ ap give_status e, told_results h ∙ ap (λ (x : Printed). give_results x results) e))
       (lt_or_le (length results) 1)
 
   pub given_others : (i : ℕ) → 1 ≤ i → get_or (given_results p results) i 0 ≡ get_or results i 0
   given_others i k =
-      ⊎_elim (λ l. ap (λ (r : List ℕ). get_or r i 0) (short-results l))
-      (λ h. ap (λ (r : List ℕ). get_or r i 0) (told-results h) ∙ result_others p results i k)
+      ⊎_elim (λ l. ap (λ (r : List ℕ). get_or r i 0) (short_results l))
+      (λ h. ap (λ (r : List ℕ). get_or r i 0) (told_results h) ∙ result_others p results i k)
       (lt_or_le (length results) 1)
 
   pub given_as_many : length (given_results p results) ≡ length results
   given_as_many =
-      ⊎_elim (λ l. ap length (short-results l)) (λ h. ap length (told-results h) ∙ result_as_many p results h)
+      ⊎_elim (λ l. ap length (short_results l)) (λ h. ap length (told_results h) ∙ result_as_many p results h)
       (lt_or_le (length results) 1)
 
   -- ---- a status other than 0
@@ -208,10 +208,10 @@ module _ (p : Printed) (after before results : List ℕ) where
   -- the lent bytes stay where nothing is given
   pub unchanged : (((n : ℕ) → p ≡ Bytes n → ⊥) → after ≡ before) → Unchanged p after before results
   unchanged stays d =
-      ⊎_elim (λ l. (given-short l).1)
+      ⊎_elim (λ l. (given_short l).1)
       (λ h.
       let none : (n : ℕ) → p ≡ Bytes n → ⊥ = λ n e. d (given_done.1 (h, (n, e))) in
-      (given-bytes h ∙ stays none, told-results h ∙ result_stays p results none)) (lt_or_le (length results) 1)
+      (given_bytes_law h ∙ stays none, told_results h ∙ result_stays p results none)) (lt_or_le (length results) 1)
 
 -- ---- a sheet: its number is a result as the length of bytes is
 
@@ -221,14 +221,14 @@ module _ (n : ℕ) (after before results : List ℕ) where
       × ((get_or (sheet_results n results) 0 0 ≡ n) × (given_bytes after before results ≡ after))
   unfolding sheet_status sheet_results given_status given_results give_status give_results
   sheet_done h = (
-    told-status (Bytes n) after before results h,
-    (given-count (Bytes n) after before results h n refl, given-bytes (Bytes n) after before results h),
+    told_status (Bytes n) after before results h,
+    (given_count (Bytes n) after before results h n refl, given_bytes_law (Bytes n) after before results h),
   )
 
   pub sheet_short : length results < 1
       → (sheet_status results ≡ 1) × ((given_bytes after before results ≡ before) × (sheet_results n results ≡ results))
   unfolding sheet_status sheet_results given_status given_results give_status give_results
-  sheet_short l = given-short (Bytes n) after before results l
+  sheet_short l = given_short (Bytes n) after before results l
 
 module _ (n : ℕ) (results : List ℕ) where
   pub sheet_others : (i : ℕ) → 1 ≤ i → get_or (sheet_results n results) i 0 ≡ get_or results i 0

@@ -14,7 +14,7 @@ use Rattle.host.proofs.Words as Words
 
 pub answer_given : (b q : List ℕ) (serial : ℕ) (space results : List ℕ) → AnswerGiven b q serial space results
 answer_given b q serial space results = record {
-  refusal = Places.refusal-given b q serial space results;
+  refusal = Places.refusal_given b q serial space results;
   answer = Places.answer_given b q serial space results;
   done = Places.answer_done b q serial space results;
   short = Places.answer_short b q serial space results;
@@ -27,11 +27,11 @@ answer_given b q serial space results = record {
 pub bytes_given : (p : Printed) (after before results : List ℕ) → BytesGiven p after before results
 bytes_given p after before results = record {
   done = Places.given_done p after before results;
-  count = Places.given-count p after before results;
-  bytes = Places.given-bytes p after before results;
+  count = Places.given_count p after before results;
+  bytes = Places.given_bytes_law p after before results;
   no_room = Places.given_no_room p after before results;
-  not_fit = Places.given-not-fit p after before results;
-  short = Places.given-short p after before results;
+  not_fit = Places.given_not_fit p after before results;
+  short = Places.given_short p after before results;
   others = Places.given_others p after before results;
   as_many = Places.given_as_many p after before results;
 }
@@ -66,6 +66,6 @@ words_said = record {
   said = Words.words_given;
   none = λ n out results f h.
       let (p, a) = Words.none_given n out f in
-      let (status, same) = Places.given-not-fit (words_printed n out) (words_after n out) out results h p in
-      (status, (Places.given-bytes (words_printed n out) (words_after n out) out results h ∙ a, same));
+      let (status, same) = Places.given_not_fit (words_printed n out) (words_after n out) out results h p in
+      (status, (Places.given_bytes_law (words_printed n out) (words_after n out) out results h ∙ a, same));
 }

@@ -127,7 +127,7 @@ decimal_behind m (d ∷ digits) h each =
 pub numeral_decimal : (digits : List ℕ) → Numeral digits → decimal (number_of digits) ≡ digits
 unfolding number_of number_from
 numeral_decimal [] v = absurd (omega (arith, v.some))
-numeral_decimal (d ∷ digits) v = ⊎_elim from_one zero-alone (lt_or_le 48 d)
+numeral_decimal (d ∷ digits) v = ⊎_elim from_one zero_alone (lt_or_le 48 d)
   where
     here : (48 ≤ d) × (d ≤ 57)
     here = v.each d (Memᴰ.head refl)
@@ -144,8 +144,8 @@ numeral_decimal (d ∷ digits) v = ⊎_elim from_one zero-alone (lt_or_le 48 d)
     none [] e = refl
     none (b ∷ l) e = absurd (omega (arith, e))
 
-    zero-alone : d ≤ 48 → decimal (number_from (0 * 10 + (d - 48)) digits) ≡ d ∷ digits
-    zero-alone h = rw (none digits (v.leading (omega (arith, here)))) one
+    zero_alone : d ≤ 48 → decimal (number_from (0 * 10 + (d - 48)) digits) ≡ d ∷ digits
+    zero_alone h = rw (none digits (v.leading (omega (arith, here)))) one
 
 -- ---- how many digits
 

@@ -34,23 +34,23 @@ known_start kinds = record { inside = omega arith; rest = refl }
 module _ (kinds : List ℕ) {i : ℕ} (v : KnownSoFar kinds i) where
   module _ (h : i < length kinds) where
     -- the next kind in front of the rest
-    known-front : (ltb (get_or kinds i 0) 4 && all_known (drop (i + 1) kinds)) ≡ all_known kinds
+    known_front : (ltb (get_or kinds i 0) 4 && all_known (drop (i + 1) kinds)) ≡ all_known kinds
     unfolding all_known
-    known-front =
+    known_front =
         ap (λ (n : ℕ). ltb (get_or kinds i 0) 4 && all_known (drop n kinds)) (add-one i)
         ∙ sym (rw (drop-cons kinds i 0 h) refl) ∙ v.rest
 
-    pub known-no : 3 < get_or kinds i 0 → false ≡ all_known kinds
-    known-no f =
+    pub known_no : 3 < get_or kinds i 0 → false ≡ all_known kinds
+    known_no f =
         sym (ap (λ (t : Bool). t && all_known (drop (i + 1) kinds)) (Tests.le-ltb (get_or kinds i 0) 4 (omega arith)))
-        ∙ known-front
+        ∙ known_front
 
     pub known_next : get_or kinds i 0 ≤ 3 → KnownSoFar kinds (i + 1)
     known_next k = record {
       inside = omega arith;
       rest =
           sym (ap (λ (t : Bool). t && all_known (drop (i + 1) kinds)) (Tests.lt-ltb (get_or kinds i 0) 4 (omega arith)))
-          ∙ known-front;
+          ∙ known_front;
     }
 
   pub known_end : length kinds ≤ i → true ≡ all_known kinds
@@ -70,19 +70,19 @@ fit_start kinds row = record { inside = omega arith; rest = refl }
 module _ (kinds : List ℕ) (row : Row) {i : ℕ} (v : FitSoFar kinds row i) where
   module _ (h : i < length kinds) (wide : length kinds ≤ length row) where
     -- the next cell in front of the rest
-    fit-front : (in_range (get_or kinds i 0) (get_or row i 0) && row_fits (drop (i + 1) kinds) (drop (i + 1) row))
+    fit_front : (in_range (get_or kinds i 0) (get_or row i 0) && row_fits (drop (i + 1) kinds) (drop (i + 1) row))
         ≡ row_fits kinds row
     unfolding row_fits
-    fit-front =
+    fit_front =
         ap (λ (n : ℕ). in_range (get_or kinds i 0) (get_or row i 0) && row_fits (drop n kinds) (drop n row)) (add-one i)
         ∙ sym (rw (drop-cons kinds i 0 h, drop-cons row i 0 (omega arith)) refl) ∙ v.rest
 
     module _ {t : Bool} (e : t ≡ in_range (get_or kinds i 0) (get_or row i 0)) where
       fit_tested : (t && row_fits (drop (i + 1) kinds) (drop (i + 1) row)) ≡ row_fits kinds row
-      fit_tested = ap (λ (s : Bool). s && row_fits (drop (i + 1) kinds) (drop (i + 1) row)) e ∙ fit-front
+      fit_tested = ap (λ (s : Bool). s && row_fits (drop (i + 1) kinds) (drop (i + 1) row)) e ∙ fit_front
 
-      pub fit-no : t ≡ false → false ≡ row_fits kinds row
-      fit-no n = sym (ap (λ (s : Bool). s && row_fits (drop (i + 1) kinds) (drop (i + 1) row)) n) ∙ fit_tested
+      pub fit_no : t ≡ false → false ≡ row_fits kinds row
+      fit_no n = sym (ap (λ (s : Bool). s && row_fits (drop (i + 1) kinds) (drop (i + 1) row)) n) ∙ fit_tested
 
       pub fit_next : t ≡ true → FitSoFar kinds row (i + 1)
       fit_next y = record {
@@ -105,19 +105,19 @@ module _ (rows : ℕ) (kinds cells : List ℕ) where
   no_items h = rw (Tests.lt-leb 1 (length kinds) h)
 
   module _ (h : 1 ≤ length kinds) where
-    pub many-items : 8 < length kinds → false ≡ fits rows kinds cells
+    pub many_items : 8 < length kinds → false ≡ fits rows kinds cells
     unfolding fits
-    many-items k = rw (Tests.le-leb 1 (length kinds) h, Tests.lt-leb (length kinds) 8 k)
+    many_items k = rw (Tests.le-leb 1 (length kinds) h, Tests.lt-leb (length kinds) 8 k)
 
     module _ (k : length kinds ≤ 8) {t : Bool} (e : t ≡ all_known kinds) where
-      pub unknown-kind : t ≡ false → false ≡ fits rows kinds cells
+      pub unknown_kind : t ≡ false → false ≡ fits rows kinds cells
       unfolding fits
-      unknown-kind n = rw (Tests.le-leb 1 (length kinds) h, Tests.le-leb (length kinds) 8 k, sym e ∙ n)
+      unknown_kind n = rw (Tests.le-leb 1 (length kinds) h, Tests.le-leb (length kinds) 8 k, sym e ∙ n)
 
       module _ (y : t ≡ true) where
-        pub many-rows : 999_999_999_999 < rows → false ≡ fits rows kinds cells
+        pub many_rows : 999_999_999_999 < rows → false ≡ fits rows kinds cells
         unfolding fits
-        many-rows l =
+        many_rows l =
             rw (
               Tests.le-leb 1 (length kinds) h,
               Tests.le-leb (length kinds) 8 k,
@@ -126,9 +126,9 @@ module _ (rows : ℕ) (kinds cells : List ℕ) where
             )
 
         module _ (l : rows ≤ 999_999_999_999) where
-          pub few-cells : length cells < rows * length kinds → false ≡ fits rows kinds cells
+          pub few_cells : length cells < rows * length kinds → false ≡ fits rows kinds cells
           unfolding fits
-          few-cells m =
+          few_cells m =
               rw (
                 Tests.le-leb 1 (length kinds) h,
                 Tests.le-leb (length kinds) 8 k,

@@ -18,7 +18,7 @@ use Rattle.sorted.specs.Rows.{Row, rows_in}
 use Rattle.printout.specs.Decimal.{cell_text}
 use Rattle.printout.specs.Lines.{behind, line, cell_texts, row_line, row_lines, row_fits, rows_fit}
 use Rattle.printout.specs.Printing.{written}
-use Rattle.printout.proofs.Writing.{Writing, writing-room, writing_next, writing_end}
+use Rattle.printout.proofs.Writing.{Writing, writing_room, writing_next, writing_end}
 
 -- ---- marks: what stands behind word i of n
 
@@ -67,25 +67,25 @@ module _ (kinds : List ℕ) (row : Row) (i : ℕ) (h : i < length kinds) (wide :
     cell_room =
         omega (
           arith,
-          writing-room from (row_line kinds row) e v,
+          writing_room from (row_line kinds row) e v,
           ap length row_front,
           length-append (cell_text kind cell) (mark_of i (length kinds) ∷ row_rest),
         )
 
     module _ {next : ℕ} {mid : List ℕ} (p : next ≡ at + length (cell_text kind cell))
         (w : mid ≡ written at (cell_text kind cell) bytes) where
-      cell-written : Writing from (row_line kinds row) e next (mark_of i (length kinds) ∷ row_rest) mid
-      cell-written =
+      cell_written : Writing from (row_line kinds row) e next (mark_of i (length kinds) ∷ row_rest) mid
+      cell_written =
           writing_next from (row_line kinds row) e v (cell_text kind cell) (mark_of i (length kinds) ∷ row_rest) row_front
           p w
 
-      pub mark-room : next < length mid
-      mark-room = omega (arith, writing-room from (row_line kinds row) e cell-written)
+      pub mark_room : next < length mid
+      mark_room = omega (arith, writing_room from (row_line kinds row) e cell_written)
 
-      pub mark-written : {m to : ℕ} {out : List ℕ} → m ≡ mark_of i (length kinds) → to ≡ next + 1
+      pub mark_written : {m to : ℕ} {out : List ℕ} → m ≡ mark_of i (length kinds) → to ≡ next + 1
           → out ≡ written next (m ∷ []) mid → Writing from (row_line kinds row) e to row_rest out
-      mark-written {m = m} s q u =
-          writing_next from (row_line kinds row) e cell-written (m ∷ []) row_rest
+      mark_written {m = m} s q u =
+          writing_next from (row_line kinds row) e cell_written (m ∷ []) row_rest
           (ap (λ (x : ℕ). x ∷ row_rest) (sym s)) q u
 
 row_none : (kinds : List ℕ) (row : Row) (i : ℕ) → length kinds ≤ i → row_line (drop i kinds) (drop i row) ≡ []
@@ -173,10 +173,10 @@ lines_left kinds cells from left = row_lines kinds (rows_in (length kinds) left 
 
 module _ (kinds cells : List ℕ) (from left : ℕ) where
   module _ (h : 0 < left) where
-    lines-front : lines_left kinds cells from left
+    lines_front : lines_left kinds cells from left
         ≡ row_line kinds (row_part (length kinds) from cells) ++ lines_left kinds cells (from + length kinds) (left - 1)
     unfolding row_lines
-    lines-front = rw (rows_left (length kinds) from cells left h)
+    lines_front = rw (rows_left (length kinds) from cells left h)
 
     module _ (start : ℕ) (text e : List ℕ) {at : ℕ} {bytes : List ℕ}
         (v : Writing start text e at (lines_left kinds cells from left) bytes) where
@@ -184,8 +184,8 @@ module _ (kinds cells : List ℕ) (from left : ℕ) where
       row_room =
           omega (
             arith,
-            writing-room start text e v,
-            ap length lines-front,
+            writing_room start text e v,
+            ap length lines_front,
             length-append (row_line kinds (row_part (length kinds) from cells))
                 (lines_left kinds cells (from + length kinds) (left - 1)),
           )
@@ -196,7 +196,7 @@ module _ (kinds cells : List ℕ) (from left : ℕ) where
           → Writing start text e to (lines_left kinds cells (from + length kinds) (left - 1)) out
       row_written p w =
           writing_next start text e v (row_line kinds (row_part (length kinds) from cells))
-          (lines_left kinds cells (from + length kinds) (left - 1)) lines-front p w
+          (lines_left kinds cells (from + length kinds) (left - 1)) lines_front p w
 
   no_lines : left ≤ 0 → lines_left kinds cells from left ≡ []
   unfolding row_lines rows_in
@@ -232,7 +232,7 @@ module _ (kinds cells : List ℕ) {rows from left n : ℕ} (v : RowsCounted kind
       arith,
       v.sum,
       p,
-      ap length (lines-front kinds cells from left h),
+      ap length (lines_front kinds cells from left h),
       length-append (row_line kinds (row_part (length kinds) from cells))
           (lines_left kinds cells (from + length kinds) (left - 1)),
     );
@@ -259,21 +259,21 @@ rows_fit_start kinds cells rows f = record { rest = refl; inside = omega arith }
 
 module _ (kinds cells : List ℕ) {rows from left : ℕ} (v : RowsFitSoFar kinds cells rows from left) where
   module _ (h : 0 < left) {t : Bool} (e : t ≡ row_fits kinds (row_part (length kinds) from cells)) where
-    abbrev restFits : Bool
-    restFits = rows_fit kinds (rows_in (length kinds) (left - 1) (drop (from + length kinds) cells))
+    abbrev rest_fits : Bool
+    rest_fits = rows_fit kinds (rows_in (length kinds) (left - 1) (drop (from + length kinds) cells))
 
-    row-tested : (t && restFits) ≡ rows_fit kinds (rows_in (length kinds) rows cells)
+    row_tested : (t && rest_fits) ≡ rows_fit kinds (rows_in (length kinds) rows cells)
     unfolding rows_fit
-    row-tested =
-        ap (λ (s : Bool). s && restFits) e ∙ ap (rows_fit kinds) (sym (rows_left (length kinds) from cells left h))
+    row_tested =
+        ap (λ (s : Bool). s && rest_fits) e ∙ ap (rows_fit kinds) (sym (rows_left (length kinds) from cells left h))
         ∙ v.rest
 
-    pub rows-fit-no : t ≡ false → false ≡ rows_fit kinds (rows_in (length kinds) rows cells)
-    rows-fit-no n = sym (ap (λ (s : Bool). s && restFits) n) ∙ row-tested
+    pub rows_fit_no : t ≡ false → false ≡ rows_fit kinds (rows_in (length kinds) rows cells)
+    rows_fit_no n = sym (ap (λ (s : Bool). s && rest_fits) n) ∙ row_tested
 
-    pub rows-fit-next : t ≡ true → RowsFitSoFar kinds cells rows (from + length kinds) (left - 1)
-    rows-fit-next y = record {
-      rest = sym (ap (λ (s : Bool). s && restFits) y) ∙ row-tested;
+    pub rows_fit_next : t ≡ true → RowsFitSoFar kinds cells rows (from + length kinds) (left - 1)
+    rows_fit_next y = record {
+      rest = sym (ap (λ (s : Bool). s && rest_fits) y) ∙ row_tested;
       inside = rest_inside (length kinds) from cells left h v.inside;
     }
 

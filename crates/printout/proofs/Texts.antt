@@ -19,7 +19,7 @@ use Rattle.printout.specs.Lines.{FitToPrint, fits}
 use Rattle.printout.specs.Printing.{written, printed, after, answer_printed, after_answer}
 use Rattle.printout.specs.Statements.{TextPrinted, AnswerPrinted}
 use Rattle.printout.proofs.Fit.{fits_fit, fit_fits}
-use Rattle.printout.proofs.Writing.{Writing, writing_start, writing-room, writing_next, writing_end}
+use Rattle.printout.proofs.Writing.{Writing, writing_start, writing_room, writing_next, writing_end}
 
 -- ---- two texts, one behind the other
 
@@ -28,16 +28,16 @@ module _ (at : ℕ) (s t e : List ℕ) (room : at + length (s ++ t) ≤ length e
   first_room = omega (arith, length-append s t)
 
   module _ {end : ℕ} {mid : List ℕ} (p : end ≡ at + length s) (w : mid ≡ written at s e) where
-    first-written : Writing at (s ++ t) e end t mid
-    first-written = writing_next at (s ++ t) e (writing_start at (s ++ t) e room) s t refl p w
+    first_written : Writing at (s ++ t) e end t mid
+    first_written = writing_next at (s ++ t) e (writing_start at (s ++ t) e room) s t refl p w
 
-    pub second-room : end + length t ≤ length mid
-    second-room = writing-room at (s ++ t) e first-written
+    pub second_room : end + length t ≤ length mid
+    second_room = writing_room at (s ++ t) e first_written
 
-    pub both-written : {to : ℕ} {out : List ℕ} → to ≡ end + length t → out ≡ written end t mid
+    pub both_written : {to : ℕ} {out : List ℕ} → to ≡ end + length t → out ≡ written end t mid
         → (to ≡ at + length (s ++ t)) × (out ≡ written at (s ++ t) e)
-    both-written q u =
-        writing_end at (s ++ t) e (writing_next at (s ++ t) e first-written t [] (sym (append-nil t)) q u)
+    both_written q u =
+        writing_end at (s ++ t) e (writing_next at (s ++ t) e first_written t [] (sym (append-nil t)) q u)
 
 -- ---- the head line
 
@@ -68,8 +68,8 @@ module _ (serial rows : ℕ) {x : ℕ} (same : (x ≡ serial) × (x < 2 ^ 32)) w
     serial_room = omega (arith, head_length)
 
     module _ {a : ℕ} {first : List ℕ} (p : a ≡ 0 + length (serial_text x)) (w : first ≡ written 0 (serial_text x) e) where
-      serial-written : Writing 0 (head_line serial rows) e a (count_text rows ++ 10 ∷ []) first
-      serial-written =
+      serial_written : Writing 0 (head_line serial rows) e a (count_text rows ++ 10 ∷ []) first
+      serial_written =
           writing_next 0 (head_line serial rows) e (writing_start 0 (head_line serial rows) e (omega arith))
           (serial_text x) (count_text rows ++ 10 ∷ []) head_parts p w
 
@@ -77,24 +77,24 @@ module _ (serial rows : ℕ) {x : ℕ} (same : (x ≡ serial) × (x < 2 ^ 32)) w
       count_room =
           omega (
             arith,
-            writing-room 0 (head_line serial rows) e serial-written,
+            writing_room 0 (head_line serial rows) e serial_written,
             length-append (decimal rows) (10 ∷ []),
           )
 
       module _ {b : ℕ} {second : List ℕ} (q : b ≡ a + length (count_text rows))
           (u : second ≡ written a (count_text rows) first) where
-        count-written : Writing 0 (head_line serial rows) e b (10 ∷ []) second
-        count-written =
-            writing_next 0 (head_line serial rows) e serial-written (count_text rows) (10 ∷ []) refl q u
+        count_written : Writing 0 (head_line serial rows) e b (10 ∷ []) second
+        count_written =
+            writing_next 0 (head_line serial rows) e serial_written (count_text rows) (10 ∷ []) refl q u
 
-        pub feed-room : b < length second
-        feed-room = omega (arith, writing-room 0 (head_line serial rows) e count-written)
+        pub feed_room : b < length second
+        feed_room = omega (arith, writing_room 0 (head_line serial rows) e count_written)
 
-        pub head-written : {to : ℕ} {out : List ℕ} → to ≡ b + 1 → out ≡ written b (10 ∷ []) second
+        pub head_written : {to : ℕ} {out : List ℕ} → to ≡ b + 1 → out ≡ written b (10 ∷ []) second
             → (to ≡ 0 + length (head_line serial rows)) × (out ≡ written 0 (head_line serial rows) e)
-        head-written r v =
+        head_written r v =
             writing_end 0 (head_line serial rows) e
-            (writing_next 0 (head_line serial rows) e count-written (10 ∷ []) [] refl r v)
+            (writing_next 0 (head_line serial rows) e count_written (10 ∷ []) [] refl r v)
 
 -- ---- a text printed
 
@@ -145,22 +145,22 @@ module _ (words : List ℕ) (number : ℕ) (e : List ℕ) {m : ℕ} (p : m ≡ l
   refusal_none h = none_printed refusal e (omega (arith, refusal_length))
 
   module _ (h : length words + m + 1 ≤ length e) where
-    refusal-fits : length refusal ≤ length e
-    refusal-fits = omega (arith, refusal_length)
+    refusal_fits : length refusal ≤ length e
+    refusal_fits = omega (arith, refusal_length)
 
-    pub words-room : 0 + length (words ++ decimal number) ≤ length e
-    words-room = omega (arith, refusal-fits, length-append (words ++ decimal number) (10 ∷ []))
+    pub words_room : 0 + length (words ++ decimal number) ≤ length e
+    words_room = omega (arith, refusal_fits, length-append (words ++ decimal number) (10 ∷ []))
 
     module _ {at : ℕ} {mid : List ℕ} (q : at ≡ 0 + length (words ++ decimal number))
         (w : mid ≡ written 0 (words ++ decimal number) e) where
-      pub line-room : at < length mid
-      line-room = omega (arith, second-room 0 (words ++ decimal number) (10 ∷ []) e (omega (arith, refusal-fits)) q w)
+      pub line_room : at < length mid
+      line_room = omega (arith, second_room 0 (words ++ decimal number) (10 ∷ []) e (omega (arith, refusal_fits)) q w)
 
-      pub refusal-written : {to : ℕ} {out : List ℕ} → to ≡ at + 1 → out ≡ written at (10 ∷ []) mid
+      pub refusal_written : {to : ℕ} {out : List ℕ} → to ≡ at + 1 → out ≡ written at (10 ∷ []) mid
           → (Bytes to ≡ printed refusal e) × (out ≡ after refusal e)
-      refusal-written r u =
-          whole_printed refusal e refusal-fits
-          (both-written 0 (words ++ decimal number) (10 ∷ []) e (omega (arith, refusal-fits)) q w r u)
+      refusal_written r u =
+          whole_printed refusal e refusal_fits
+          (both_written 0 (words ++ decimal number) (10 ∷ []) e (omega (arith, refusal_fits)) q w r u)
 
 -- the lines are the words and the number
 pub book_refused_law : (number : ℕ) (e : List ℕ) {r : Printed} {out : List ℕ}
@@ -217,36 +217,36 @@ module _ (serial rows : ℕ) (kinds cells e : List ℕ) {t : Bool} (f : t ≡ fi
       let (a, b) = unfit_gives serial rows kinds cells e (sym f ∙ n) in (sym a, sym b)
 
   module _ (y : t ≡ true) where
-    pub answer-fit : FitToPrint rows kinds cells
-    answer-fit = fits_fit rows kinds cells (sym f ∙ y)
+    pub answer_fit : FitToPrint rows kinds cells
+    answer_fit = fits_fit rows kinds cells (sym f ∙ y)
 
     -- what holds of printing the text holds of printing the answer
-    fit-printed : {r : Printed} {out : List ℕ}
+    fit_printed : {r : Printed} {out : List ℕ}
         → (r ≡ printed (head_line serial rows ++ lines) e) × (out ≡ after (head_line serial rows ++ lines) e)
         → (r ≡ answer_printed serial rows kinds cells e) × (out ≡ after_answer serial rows kinds cells e)
     unfolding answer_text
-    fit-printed p =
+    fit_printed p =
         let (a, b) = fit_gives serial rows kinds cells e (sym f ∙ y) in (p.0 ∙ sym a, p.1 ∙ sym b)
 
     module _ {h n : ℕ} (p : h ≡ length (head_line serial rows)) (q : n ≡ length lines) where
-      answer-length : h + n ≡ length (head_line serial rows ++ lines)
-      answer-length = omega (arith, p, q, length-append (head_line serial rows) lines)
+      answer_length : h + n ≡ length (head_line serial rows ++ lines)
+      answer_length = omega (arith, p, q, length-append (head_line serial rows) lines)
 
-      pub answer-none : length e < h + n
+      pub answer_none : length e < h + n
           → (NoRoom ≡ answer_printed serial rows kinds cells e) × (e ≡ after_answer serial rows kinds cells e)
-      answer-none l = fit-printed (none_printed (head_line serial rows ++ lines) e (omega (arith, answer-length)))
+      answer_none l = fit_printed (none_printed (head_line serial rows ++ lines) e (omega (arith, answer_length)))
 
       module _ (l : h + n ≤ length e) where
         whole : 0 + length (head_line serial rows ++ lines) ≤ length e
-        whole = omega (arith, answer-length)
+        whole = omega (arith, answer_length)
 
         module _ {at : ℕ} {mid : List ℕ} (r : at ≡ 0 + length (head_line serial rows))
             (w : mid ≡ written 0 (head_line serial rows) e) where
-          pub lines-room : at + length lines ≤ length mid
-          lines-room = second-room 0 (head_line serial rows) lines e whole r w
+          pub lines_room : at + length lines ≤ length mid
+          lines_room = second_room 0 (head_line serial rows) lines e whole r w
 
-          pub answer-written : {to : ℕ} {out : List ℕ} → to ≡ at + length lines → out ≡ written at lines mid
+          pub answer_written : {to : ℕ} {out : List ℕ} → to ≡ at + length lines → out ≡ written at lines mid
               → (Bytes to ≡ answer_printed serial rows kinds cells e) × (out ≡ after_answer serial rows kinds cells e)
-          answer-written s u =
-              fit-printed (whole_printed (head_line serial rows ++ lines) e (omega (arith, whole))
-              (both-written 0 (head_line serial rows) lines e whole r w s u))
+          answer_written s u =
+              fit_printed (whole_printed (head_line serial rows ++ lines) e (omega (arith, whole))
+              (both_written 0 (head_line serial rows) lines e whole r w s u))

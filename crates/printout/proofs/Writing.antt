@@ -92,15 +92,15 @@ module _ (from : ℕ) (text e : List ℕ) where
   }
 
   module _ {at : ℕ} {bytes : List ℕ} where
-    pub writing-length : {rest : List ℕ} → Writing from text e at rest bytes → length bytes ≡ length e
-    writing-length {rest = rest} v =
+    pub writing_length : {rest : List ℕ} → Writing from text e at rest bytes → length bytes ≡ length e
+    writing_length {rest = rest} v =
         ap length v.so_far
         ∙ written_length from v.done e (omega (arith, ap length v.whole, length-append v.done rest, v.room))
 
     -- the rest fits behind what is written
-    pub writing-room : {rest : List ℕ} → Writing from text e at rest bytes → at + length rest ≤ length bytes
-    writing-room {rest = rest} v =
-        omega (arith, ap length v.whole, length-append v.done rest, writing-length v, v.room)
+    pub writing_room : {rest : List ℕ} → Writing from text e at rest bytes → at + length rest ≤ length bytes
+    writing_room {rest = rest} v =
+        omega (arith, ap length v.whole, length-append v.done rest, writing_length v, v.room)
 
     -- a piece more
     pub writing_next : {rest : List ℕ} → Writing from text e at rest bytes
@@ -132,7 +132,7 @@ module _ (from : ℕ) (text e : List ℕ) where
 
 module _ (from : ℕ) (text e : List ℕ) {i at : ℕ} {bytes : List ℕ} (v : Writing from text e at (drop i text) bytes) where
   pub text_room : i < length text → at < length bytes
-  text_room h = omega (arith, writing-room from text e v, length-drop i text)
+  text_room h = omega (arith, writing_room from text e v, length-drop i text)
 
   pub text_next : {to b : ℕ} {out : List ℕ} → i < length text → b ≡ get_or text i 0 → to ≡ at + 1
       → out ≡ written at (b ∷ []) bytes → Writing from text e to (drop (i + 1) text) out
@@ -157,20 +157,20 @@ module _ (x at : ℕ) (e : List ℕ) where
       (q ∙ ap (λ (l : List ℕ). at + length l) one, w ∙ ap (λ (l : List ℕ). written at l e) one)
 
   module _ (h : 10 ≤ x) (room : at + length (decimal x) ≤ length e) where
-    tenth-length : length (decimal x) ≡ length (decimal (x / 10)) + 1
-    tenth-length = ap length (decimal_large h) ∙ length-append (decimal (x / 10)) ((48 + x % 10) ∷ [])
+    tenth_length : length (decimal x) ≡ length (decimal (x / 10)) + 1
+    tenth_length = ap length (decimal_large h) ∙ length-append (decimal (x / 10)) ((48 + x % 10) ∷ [])
 
-    pub tenth-room : at + length (decimal (x / 10)) ≤ length e
-    tenth-room = omega (arith, tenth-length)
+    pub tenth_room : at + length (decimal (x / 10)) ≤ length e
+    tenth_room = omega (arith, tenth_length)
 
     module _ {end : ℕ} {mid : List ℕ} (p : end ≡ at + length (decimal (x / 10)))
         (w : mid ≡ written at (decimal (x / 10)) e) where
-      pub last-room : end < length mid
-      last-room = omega (arith, tenth-length, ap length w, written_length at (decimal (x / 10)) e tenth-room)
+      pub last_room : end < length mid
+      last_room = omega (arith, tenth_length, ap length w, written_length at (decimal (x / 10)) e tenth_room)
 
-      pub large-written : {to d : ℕ} {out : List ℕ} → d ≡ 48 + x % 10 → to ≡ end + 1 → out ≡ written end (d ∷ []) mid
+      pub large_written : {to d : ℕ} {out : List ℕ} → d ≡ 48 + x % 10 → to ≡ end + 1 → out ≡ written end (d ∷ []) mid
           → (to ≡ at + length (decimal x)) × (out ≡ written at (decimal x) e)
-      large-written f q v =
+      large_written f q v =
           writing_end at (decimal x) e (writing_next at (decimal x) e
           (writing_next at (decimal x) e (writing_start at (decimal x) e room) (decimal (x / 10))
           ((48 + x % 10) ∷ []) (decimal_large h) p w)
@@ -211,28 +211,28 @@ module _ (kind cell at : ℕ) (e : List ℕ) (room : at + length (value_text kin
     {t : Bool} (m : t ≡ minus kind cell) {w : ℕ} (s : (w ≡ cell) × (w < 2 ^ 32)) where
   module _ (y : t ≡ true) {next : ℕ} {mid : List ℕ} (p : next ≡ at + 1) (v : mid ≡ written at (45 ∷ []) e) where
     -- the minus is written, the digits are left
-    minus-written : Writing at (value_text kind cell) e next (decimal (2 ^ 32 - w)) mid
-    minus-written =
+    minus_written : Writing at (value_text kind cell) e next (decimal (2 ^ 32 - w)) mid
+    minus_written =
         writing_next at (value_text kind cell) e (writing_start at (value_text kind cell) e room) (45 ∷ [])
         (decimal (2 ^ 32 - w)) (value_minus kind cell m s y) p v
 
-    pub digits-room : next + length (decimal (2 ^ 32 - w)) ≤ length mid
-    digits-room = writing-room at (value_text kind cell) e minus-written
+    pub digits_room : next + length (decimal (2 ^ 32 - w)) ≤ length mid
+    digits_room = writing_room at (value_text kind cell) e minus_written
 
-    pub digits-written : {to : ℕ} {out : List ℕ} → to ≡ next + length (decimal (2 ^ 32 - w))
+    pub digits_written : {to : ℕ} {out : List ℕ} → to ≡ next + length (decimal (2 ^ 32 - w))
         → out ≡ written next (decimal (2 ^ 32 - w)) mid
         → (to ≡ at + length (value_text kind cell)) × (out ≡ written at (value_text kind cell) e)
-    digits-written q u =
-        writing_end at (value_text kind cell) e (writing_next at (value_text kind cell) e minus-written
+    digits_written q u =
+        writing_end at (value_text kind cell) e (writing_next at (value_text kind cell) e minus_written
         (decimal (2 ^ 32 - w)) [] (sym (append-nil (decimal (2 ^ 32 - w)))) q u)
 
   module _ (y : t ≡ false) where
-    pub plain-room : at + length (decimal w) ≤ length e
-    plain-room = omega (arith, ap length (value_no_minus kind cell m s y))
+    pub plain_room : at + length (decimal w) ≤ length e
+    plain_room = omega (arith, ap length (value_no_minus kind cell m s y))
 
-    pub plain-written : {to : ℕ} {out : List ℕ} → to ≡ at + length (decimal w) → out ≡ written at (decimal w) e
+    pub plain_written : {to : ℕ} {out : List ℕ} → to ≡ at + length (decimal w) → out ≡ written at (decimal w) e
         → (to ≡ at + length (value_text kind cell)) × (out ≡ written at (value_text kind cell) e)
-    plain-written q u =
+    plain_written q u =
         let same = sym (value_no_minus kind cell m s y) in
         (q ∙ ap (λ (l : List ℕ). at + length l) same, u ∙ ap (λ (l : List ℕ). written at l e) same)
 

@@ -25,7 +25,7 @@ use Rattle.records.specs.declared.Reading.{Reading}
 use Rattle.records.specs.declared.Reading.TheVariants.{Nothing, Unknown, Short, Found}
 use Rattle.scheme.specs.declared.Scheme.{Scheme}
 use Rattle.scheme.specs.Growing.{attributes_of}
-use Rattle.scheme.proofs.Lists.{Asks, NoneSoFar, none_start, none_found, none-next, none_end}
+use Rattle.scheme.proofs.Lists.{Asks, NoneSoFar, none_start, none_found, none_next, none_end}
 use Rattle.query.specs.declared.Asked.{Asked}
 use Rattle.query.specs.declared.Walked.{Walked}
 use Rattle.query.specs.declared.Query.{Query}
@@ -143,7 +143,7 @@ contains_found sets Ms X v h a e y =
 
 pub contains_next : (sets Ms : List ℕ) (X : ℕ) {i A : ℕ} {r : Bool} → NoneSoFar (contains_asks sets X) Ms i → i < length Ms
     → A ≡ attributes_of sets (get_or Ms i 0) → r ≡ within X A → r ≡ false → NoneSoFar (contains_asks sets X) Ms (i + 1)
-contains_next sets Ms X v h a e n = none-next (contains_asks sets X) v h (ap (within X) (sym a) ∙ sym e ∙ n)
+contains_next sets Ms X v h a e n = none_next (contains_asks sets X) v h (ap (within X) (sym a) ∙ sym e ∙ n)
 
 pub contains_none : (sets Ms : List ℕ) (X : ℕ) {i : ℕ} → NoneSoFar (contains_asks sets X) Ms i → length Ms ≤ i
     → true ≡ is_nil (containing sets Ms X)
@@ -172,7 +172,7 @@ module _ {sets Ms Xs : List ℕ} {v : ℕ} (n : NoneUnconnected sets Ms Xs v) (h
   next_variable : unconnected sets Ms (get_or Xs v 0) ≡ false → NoneUnconnected sets Ms Xs (v + 1)
   next_variable x = record {
     sized = n.sized;
-    so_far = none-next (unconnected_asks sets Ms) n.so_far inside x;
+    so_far = none_next (unconnected_asks sets Ms) n.so_far inside x;
   }
 
   pub variable_not_named : not r ≡ false → NoneUnconnected sets Ms Xs (v + 1)
@@ -181,14 +181,14 @@ module _ {sets Ms Xs : List ℕ} {v : ℕ} (n : NoneUnconnected sets Ms Xs v) (h
       next_variable (ap (λ (t : Bool). t && is_nil (containing sets Ms (get_or Xs v 0))) (ap not (sym e) ∙ x))
 
   module _ (named : not r ≡ true) {t : Bool} (f : t ≡ is_nil (containing sets Ms (get_or Xs v 0))) where
-    pub variable-found : t ≡ true → true ≡ some_unconnected sets Ms Xs
+    pub variable_found : t ≡ true → true ≡ some_unconnected sets Ms Xs
     unfolding unconnected
-    variable-found y =
+    variable_found y =
         none_found (unconnected_asks sets Ms) n.so_far inside (and_yes (ap not (sym e) ∙ named) (sym f ∙ y))
 
-    pub variable-connected : t ≡ false → NoneUnconnected sets Ms Xs (v + 1)
+    pub variable_connected : t ≡ false → NoneUnconnected sets Ms Xs (v + 1)
     unfolding unconnected
-    variable-connected x = next_variable (ap₂ ◌&&◌ (ap not (sym e) ∙ named) (sym f ∙ x))
+    variable_connected x = next_variable (ap₂ ◌&&◌ (ap not (sym e) ∙ named) (sym f ∙ x))
 
 pub variables_end : {sets Ms Xs : List ℕ} {v : ℕ} → NoneUnconnected sets Ms Xs v → 4 ≤ v
     → false ≡ some_unconnected sets Ms Xs
@@ -244,14 +244,14 @@ module _ (s : Scheme) (Ms b : List ℕ) where
     unfolding walked_of
     asked_is = ap (λ (x : Walked). x.asked) e
 
-    at-is : w.at ≡ (walk_query s b).at
+    at_is : w.at ≡ (walk_query s b).at
     unfolding walked_of
-    at-is = ap (λ (x : Walked). x.at) e
+    at_is = ap (λ (x : Walked). x.at) e
 
-    pub query-faulty : (w.refusal ≡ 0 → ⊥)
+    pub query_faulty : (w.refusal ≡ 0 → ⊥)
         → ◌≡◌ {A = Query} (record { refusal = w.refusal; asked = w.asked; read = 0 }) (query_of (read s Ms b))
     unfolding query_of
-    query-faulty d =
+    query_faulty d =
         ap₂ {C = Query} (λ (n : ℕ) (x : Asked). record { refusal = n; asked = x; read = 0 }) number_is asked_is
         ∙ ap query_of (sym (read_within s Ms b h ∙ after_fault s Ms (walk_query s b) (λ z. d (number_is ∙ z))))
 
@@ -269,13 +269,13 @@ module _ (s : Scheme) (Ms b : List ℕ) where
           ap₂ {C = Query} (λ (k : ℕ) (x : Asked). record { refusal = k; asked = x; read = 0 }) whole_is asked_is
           ∙ ap query_of (sym (ended ∙ out))
 
-      pub query-answered : n ≡ 0
+      pub query_answered : n ≡ 0
           → ◌≡◌ {A = Query} (record { refusal = n; asked = w.asked; read = w.at }) (query_of (read s Ms b))
       unfolding query_of
-      query-answered y =
+      query_answered y =
           let ended = read_within s Ms b h ∙ after_end s Ms (walk_query s b) (sym number_is ∙ z) in
           let out = end_good (whole_number s Ms (asked_of (asks (walk_query s b).state))) (asks (walk_query s b).state)
           (walk_query s b).at (sym whole_is ∙ y) in
           ap {B = Query} (λ (k : ℕ). record { refusal = k; asked = w.asked; read = w.at }) y
-          ∙ ap₂ {C = Query} (λ (x : Asked) (k : ℕ). record { refusal = 0; asked = x; read = k }) asked_is at-is
+          ∙ ap₂ {C = Query} (λ (x : Asked) (k : ℕ). record { refusal = 0; asked = x; read = k }) asked_is at_is
           ∙ ap query_of (sym (ended ∙ out))

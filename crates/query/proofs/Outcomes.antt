@@ -173,22 +173,22 @@ module _ (s : Scheme) (Ms b : List ℕ) where
 
   module _ (h : length b ≤ 65536) where
     -- what stops the reading gives its number
-    number-stops : {o : QueryOutcome} → StopsWith s Ms b o → (read s Ms b).number ≡ o.number
-    number-stops w = ap (λ (o : QueryOutcome). o.number) (stops_read s Ms b h w)
+    number_stops : {o : QueryOutcome} → StopsWith s Ms b o → (read s Ms b).number ≡ o.number
+    number_stops w = ap (λ (o : QueryOutcome). o.number) (stops_read s Ms b h w)
 
     pub faulty_number : {n : ℕ} → FaultyRecord s b n → (read s Ms b).number ≡ n
-    faulty_number f = number-stops (faulty f.accepted f.faulty)
+    faulty_number f = number_stops (faulty f.accepted f.faulty)
 
-    pub unended-number : Unended s b → (read s Ms b).number ≡ 3
-    unended-number u = number-stops (unended u.accepted u.ended)
+    pub unended_number : Unended s b → (read s Ms b).number ≡ 3
+    unended_number u = number_stops (unended u.accepted u.ended)
 
-    pub ended-number : {n : ℕ} → Ended s Ms b n → (read s Ms b).number ≡ n
-    ended-number {n} w =
+    pub ended_number : {n : ℕ} → Ended s Ms b n → (read s Ms b).number ≡ n
+    ended_number {n} w =
         ⊎_elim
         (λ z.
         let v = subst (OfWhole s Ms (asks w.passed)) z w.whole in
-        number-stops (answered w.accepted w.at_kind_ten v) ∙ sym z)
-        (λ d. number-stops (refused w.accepted w.at_kind_ten w.whole d)) (eq_or_ne n 0)
+        number_stops (answered w.accepted w.at_kind_ten v) ∙ sym z)
+        (λ d. number_stops (refused w.accepted w.at_kind_ten w.whole d)) (eq_or_ne n 0)
 
 -- ---- which numbers there are
 
@@ -259,43 +259,43 @@ module _ (s : Scheme) (Ms b : List ℕ) where
   number_within d = ⊎_elim (λ h. absurd (d (number_over h))) (λ h. h) (lt_or_le 65536 (length b))
 
   module _ (h : length b ≤ 65536) where
-    number-from : {n : ℕ} → (read s Ms b).number ≡ n → From s Ms b n
-    number-from e = subst (From s Ms b) e (stops_from s Ms b (read_stops s Ms b h))
+    number_from_law : {n : ℕ} → (read s Ms b).number ≡ n → From s Ms b n
+    number_from_law e = subst (From s Ms b) e (stops_from s Ms b (read_stops s Ms b h))
 
     -- it is a fault's, or the whole query's
-    number-kinds : {n : ℕ} → (read s Ms b).number ≡ n → FaultNumber n ⊎ OfWholeQuery n
+    number_kinds : {n : ℕ} → (read s Ms b).number ≡ n → FaultNumber n ⊎ OfWholeQuery n
     unfolding From
-    number-kinds e =
+    number_kinds e =
         ⊎_elim (λ f. inl (faulty_record_number f))
         (λ p. ⊎_elim (λ u. inl (subst FaultNumber (sym u.0) three)) (λ w. inr (whole_numbers w.whole)) p)
-        (number-from e)
+        (number_from_law e)
 
-    pub number-of-record : {n : ℕ} → OfRecord n → (read s Ms b).number ≡ n → FaultyRecord s b n
+    pub number_of_record : {n : ℕ} → OfRecord n → (read s Ms b).number ≡ n → FaultyRecord s b n
     unfolding From
-    number-of-record c e =
+    number_of_record c e =
         ⊎_elim (λ f. f)
         (λ p. ⊎_elim (λ u. absurd (not_three c u.0))
         (λ w. absurd (not_of_query (of_record_fault c) (whole_numbers w.whole))) p)
-        (number-from e)
+        (number_from_law e)
 
-    pub number-three : (read s Ms b).number ≡ 3 → FaultyRecord s b 3 ⊎ Unended s b
+    pub number_three : (read s Ms b).number ≡ 3 → FaultyRecord s b 3 ⊎ Unended s b
     unfolding From
-    number-three e =
+    number_three e =
         ⊎_elim (λ f. inl f)
         (λ p. ⊎_elim (λ u. inr u.1) (λ w. absurd (not_of_query three (whole_numbers w.whole))) p)
-        (number-from e)
+        (number_from_law e)
 
     pub number_of_query : {n : ℕ} → OfWholeQuery n → (read s Ms b).number ≡ n → Ended s Ms b n
     unfolding From
     number_of_query c e =
         ⊎_elim (λ f. absurd (not_of_query (faulty_record_number f) c))
         (λ p. ⊎_elim (λ u. absurd (not_of_query (subst FaultNumber (sym u.0) three) c)) (λ w. w) p)
-        (number-from e)
+        (number_from_law e)
 
   pub number_not_one : length b ≤ 65536 → (read s Ms b).number ≡ 1 → ⊥
-  number_not_one h e = ⊎_elim (λ f. fault_not_one f refl) (λ q. query_not_one q refl) (number-kinds h e)
+  number_not_one h e = ⊎_elim (λ f. fault_not_one f refl) (λ q. query_not_one q refl) (number_kinds h e)
 
   pub number_one_of : {n : ℕ} → (read s Ms b).number ≡ n → OneOf n
   number_one_of {n} e =
       ⊎_elim (λ h. inl (omega (arith, number_over h)))
-      (λ h. ⊎_elim (λ f. fault_one_of f) (λ q. query_one_of q) (number-kinds h e)) (lt_or_le 65536 (length b))
+      (λ h. ⊎_elim (λ f. fault_one_of f) (λ q. query_one_of q) (number_kinds h e)) (lt_or_le 65536 (length b))

@@ -23,9 +23,9 @@ use Rattle.query.proofs.Names.{in_named, asked_whole}
 use Rattle.query.proofs.Asking.{conjunction_of}
 use Rattle.query.proofs.Fits.{accepted_records_fit}
 use Rattle.query.proofs.Whole.{containing_only, containing_has, containing_ordered}
-use Rattle.query.proofs.Outcomes.{read_over, read_stops, stops_read, faulty_number, unended-number, ended-number}
-use Rattle.query.proofs.Outcomes.{number_over, number_within, number_not_one, number_one_of, number-of-record}
-use Rattle.query.proofs.Outcomes.{number-three, number_of_query, record_not_one, query_not_one}
+use Rattle.query.proofs.Outcomes.{read_over, read_stops, stops_read, faulty_number, unended_number, ended_number}
+use Rattle.query.proofs.Outcomes.{number_over, number_within, number_not_one, number_one_of, number_of_record}
+use Rattle.query.proofs.Outcomes.{number_three, number_of_query, record_not_one, query_not_one}
 
 -- ---- the fault of a record
 
@@ -85,15 +85,15 @@ number_means s Ms b = record {
     λ h. number_over s Ms b h,
   );
   three = (
-    λ e. let h = number_within s Ms b (λ z. omega arith) in (h, number-three s Ms b h e),
-    λ p. ⊎_elim (λ f. faulty_number s Ms b p.0 f) (λ u. unended-number s Ms b p.0 u) p.1,
+    λ e. let h = number_within s Ms b (λ z. omega arith) in (h, number_three s Ms b h e),
+    λ p. ⊎_elim (λ f. faulty_number s Ms b p.0 f) (λ u. unended_number s Ms b p.0 u) p.1,
   );
   of_record = λ n c. (
-    λ e. let h = number_within s Ms b (λ z. record_not_one c (sym e ∙ z)) in (h, number-of-record s Ms b h c e),
+    λ e. let h = number_within s Ms b (λ z. record_not_one c (sym e ∙ z)) in (h, number_of_record s Ms b h c e),
     λ p. faulty_number s Ms b p.0 p.1,
   );
   of_whole = λ n c. (
     λ e. let h = number_within s Ms b (λ z. query_not_one c (sym e ∙ z)) in (h, number_of_query s Ms b h c e),
-    λ p. ended-number s Ms b p.0 p.1,
+    λ p. ended_number s Ms b p.0 p.1,
   );
 }

@@ -90,11 +90,11 @@ field_eight s at low high e0 e1 =
       field_suc 2 s (at + 1),
       field_suc 1 s (at + 1 + 1),
       field_one s (at + 1 + 1 + 1),
-      ap (field 4 s) (add-ones at),
+      ap (field 4 s) (add_ones at),
     )
   where
-    add-ones : (n : ℕ) → n + 4 ≡ n + 1 + 1 + 1 + 1
-    add-ones n = omega arith
+    add_ones : (n : ℕ) → n + 4 ≡ n + 1 + 1 + 1 + 1
+    add_ones n = omega arith
 
 -- A field of the bytes from position b on is a field of all of them.
 pub field_drop : (w : ℕ) (s : List ℕ) (b j : ℕ) → field w (drop b s) j ≡ field w s (b + j)

@@ -73,30 +73,30 @@ module _ {Ts : List Table} (o : OfAttributes (family Ts)) (agree : AgreePairwise
     holder : HolderTable Ts A a
     holder = holder_table i r
 
-    holderFits : FitsOn (remove A a) ρ holder.table
-    holderFits = f holder.table holder.there
+    holder_fits : FitsOn (remove A a) ρ holder.table
+    holder_fits = f holder.table holder.there
 
     -- the cell of the holder's row
     cell : ℕ
-    cell = cell_of holder.table.set holderFits.row a
+    cell = cell_of holder.table.set holder_fits.row a
 
-    fits-with : {T : Table} → Memᴰ T Ts → a ∈ T.set → FitsOn A (changed ρ a cell) T
+    fits_with : {T : Table} → Memᴰ T Ts → a ∈ T.set → FitsOn A (changed ρ a cell) T
     unfolding cell
-    fits-with {T} m t = record { row = s.other; there = s.there; cells = cells }
+    fits_with {T} m t = record { row = s.other; there = s.there; cells = cells }
       where
-        s : SameCells (holder.table.set ∩ T.set) holder.table holderFits.row T
-        s = agreeing agree holder.there m holderFits.there
+        s : SameCells (holder.table.set ∩ T.set) holder.table holder_fits.row T
+        s = agreeing agree holder.there m holder_fits.there
 
         cells : (b : ℕ) → b ∈ T.set → b ∈ A → cell_of T.set s.other b ≡ changed ρ a cell b
         cells b j l =
             let w : b ∈ holder.table.set = holder.widest T m t b j l in
             s.cells b (member_lt ATTRIBUTES (set_lt o m) j) (∩_in w j)
-            ∙ ⊎_elim (λ e. ap (cell_of holder.table.set holderFits.row) e ∙ sym (changed_here ρ a cell e))
-            (λ n. holderFits.cells b w (remove_in l n) ∙ sym (changed_else ρ a cell n))
+            ∙ ⊎_elim (λ e. ap (cell_of holder.table.set holder_fits.row) e ∙ sym (changed_here ρ a cell e))
+            (λ n. holder_fits.cells b w (remove_in l n) ∙ sym (changed_else ρ a cell n))
             (eq_or_ne b a)
 
-    fits-without : {T : Table} → Memᴰ T Ts → a ∉ T.set → FitsOn A (changed ρ a cell) T
-    fits-without {T} m out =
+    fits_without : {T : Table} → Memᴰ T Ts → a ∉ T.set → FitsOn A (changed ρ a cell) T
+    fits_without {T} m out =
         let t = f T m in
         record {
           row = t.row;
@@ -106,8 +106,8 @@ module _ {Ts : List Table} (o : OfAttributes (family Ts)) (agree : AgreePairwise
               t.cells b j (remove_in l n) ∙ sym (changed_else ρ a cell n);
         }
 
-    fits-back : AllFit A (changed ρ a cell) Ts
-    fits-back T m = ⊎_elim (fits-with m) (fits-without m) (member_or_not a T.set)
+    fits_back : AllFit A (changed ρ a cell) Ts
+    fits_back T m = ⊎_elim (fits_with m) (fits_without m) (member_or_not a T.set)
 
   -- ---- all the way back
 
@@ -122,7 +122,7 @@ module _ {Ts : List Table} (o : OfAttributes (family Ts)) (agree : AgreePairwise
       let e = backwards rest f in
       record {
         assigns = changed e.assigns a (cell i r e.all_fit);
-        all_fit = fits-back i r e.all_fit;
+        all_fit = fits_back i r e.all_fit;
         same = λ b j.
             changed_else e.assigns a (cell i r e.all_fit) (λ z. in_out (subst (λ (c : ℕ). c ∈ X) z j) out)
             ∙ e.same b j;

@@ -275,15 +275,15 @@ own_gap_equal =
 pub survey_disagrees : AgreePairwise survey → ⊥
 unfolding survey project projected cell_of rank members has bit ◌∩◌
 survey_disagrees agree =
-    no-trip ((agree.shared _ _ (Memᴰ.head refl) (Memᴰ.tail (Memᴰ.head refl))).first_in_second (12 ∷ [])
+    no_trip ((agree.shared _ _ (Memᴰ.head refl) (Memᴰ.tail (Memᴰ.head refl))).first_in_second (12 ∷ [])
     (Memᴰ.tail (Memᴰ.tail (Memᴰ.head refl))))
   where
-    no-trip : Memᴰ {A = List ℕ} (12 ∷ []) ((10 ∷ []) ∷ (11 ∷ []) ∷ (13 ∷ []) ∷ []) → ⊥
-    no-trip (Memᴰ.head e) = let z : ◌≡◌ {A = ℕ} 12 10 = head-eq_of_cons-eq e in omega arith
-    no-trip (Memᴰ.tail (Memᴰ.head e)) = let z : ◌≡◌ {A = ℕ} 12 11 = head-eq_of_cons-eq e in omega arith
-    no-trip (Memᴰ.tail (Memᴰ.tail (Memᴰ.head e))) =
+    no_trip : Memᴰ {A = List ℕ} (12 ∷ []) ((10 ∷ []) ∷ (11 ∷ []) ∷ (13 ∷ []) ∷ []) → ⊥
+    no_trip (Memᴰ.head e) = let z : ◌≡◌ {A = ℕ} 12 10 = head-eq_of_cons-eq e in omega arith
+    no_trip (Memᴰ.tail (Memᴰ.head e)) = let z : ◌≡◌ {A = ℕ} 12 11 = head-eq_of_cons-eq e in omega arith
+    no_trip (Memᴰ.tail (Memᴰ.tail (Memᴰ.head e))) =
         let z : ◌≡◌ {A = ℕ} 12 13 = head-eq_of_cons-eq e in omega arith
-    no-trip (Memᴰ.tail (Memᴰ.tail (Memᴰ.tail m))) = Memᴰ.not-nil m
+    no_trip (Memᴰ.tail (Memᴰ.tail (Memᴰ.tail m))) = Memᴰ.not-nil m
 
 -- two tables with no row agree: those of leads and of trips, which share STATION, and two that share nothing
 pub empty_tables_agree : AgreePairwise (no_rows 3 ∷ no_rows 5 ∷ []) × AgreePairwise (no_rows 1 ∷ no_rows 4 ∷ [])

@@ -70,19 +70,19 @@ module _ (b q : List ℕ) (serial : ℕ) (z : number_of b q serial ≡ 0) where
   -- ---- its text
 
   module _ (space : List ℕ) (long : length space ≡ room) where
-    answered-here : number b q serial (length space) ≡ 0
-    answered-here = ap (number b q serial) long ∙ z
+    answered_here : number b q serial (length space) ≡ 0
+    answered_here = ap (number b q serial) long ∙ z
 
-    rows-there : rows_in (length (kinds_of b q)) (length (rows_answered b q)) (space_after b q serial space) ≡ rows_answered b q
-    rows-there =
+    rows_there : rows_in (length (kinds_of b q)) (length (rows_answered b q)) (space_after b q serial space) ≡ rows_answered b q
+    rows_there =
         ap (λ (w : ℕ). rows_in w (length (rows_answered b q)) (space_after b q serial space)) kinds_wide
-        ∙ (demand1 b q serial space).front answered-here
+        ∙ (demand1 b q serial space).front answered_here
 
     text_same : full_text b q serial
         ≡ answer_text (serial + 1) (length (rows_answered b q)) (kinds_of b q) (space_after b q serial space)
     unfolding full_text answer_text
     text_same =
-        ap (λ (l : List Row). head_line (serial + 1) (length (rows_answered b q)) ++ row_lines (kinds_of b q) l) (sym rows-there)
+        ap (λ (l : List Row). head_line (serial + 1) (length (rows_answered b q)) ++ row_lines (kinds_of b q) l) (sym rows_there)
 
     -- ---- fit to print
 
@@ -107,15 +107,15 @@ module _ (b q : List ℕ) (serial : ℕ) (z : number_of b q serial ≡ 0) where
           (omega (arith, cells_few, (demand1 b q serial space).as_many, long));
       in_ranges = λ i j h k.
           subst (λ (c : ℕ). in_range (get_or (kinds_of b q) j 0) c ≡ true)
-          (ap (λ (l : List Row). get_or (get_or l i []) j 0) (sym rows-there)
+          (ap (λ (l : List Row). get_or (get_or l i []) j 0) (sym rows_there)
           ∙ cell_at (length (rows_answered b q)) (kinds_of b q) (space_after b q serial space) i j h k)
           (cell_ranged i j h k);
     }
 
     -- ---- room
 
-    text-fits : serial < 2 ^ 32 → length (full_text b q serial) ≤ 98327
-    text-fits h =
+    text_fits : serial < 2 ^ 32 → length (full_text b q serial) ≤ 98327
+    text_fits h =
         let (g, m, c) = known in
         subst (λ (t : List ℕ). length t ≤ 98327) (sym text_same)
         (room_enough.answer (serial + 1) (length (rows_answered b q)) (kinds_of b q) (space_after b q serial space)
@@ -143,7 +143,7 @@ answered_prints b q serial space z h long =
     record {
       fit = fit b q serial z space long;
       text = text_same b q serial z space long;
-      fits = text-fits b q serial z space long h;
+      fits = text_fits b q serial z space long h;
       some = some;
       inside = inside;
       serials = let (g, m, c) = known b q serial z in omega (arith, h, m);

@@ -26,8 +26,8 @@ use Rattle.connection.specs.Answers.{kind_of, item_kinds}
 use Rattle.connection.specs.Answering.{query_read, rows_answered, number, refused, answer_of, space_after}
 use Rattle.connection.proofs.Theorems.{answer_number_means}
 use Rattle.answer.specs.Asked.{AskedBy, Askable, AnswersAsked, FillsAsked}
-use Rattle.answer.proofs.Returning.{number_is, scheme_is, query-number, asked_ready, refused-query, asked_by}
-use Rattle.answer.proofs.Returning.{answered-whole}
+use Rattle.answer.proofs.Returning.{number_is, scheme_is, query_number, asked_ready, refused_query_law, asked_by}
+use Rattle.answer.proofs.Returning.{answered_whole}
 use Rattle.printout.specs.Lines.{book_refused, query_refused}
 use Rattle.printout.specs.Printing.{printed, after, answer_printed, after_answer}
 use Rattle.printout.specs.declared.Printed.{Printed}
@@ -82,26 +82,26 @@ module _ (refusal input : ℕ) (out : List ℕ) where
   )
 
   module _ (room : 98327 ≤ length out) where
-    pub opens-book : {p : Printed} {n : ℕ} {end : List ℕ} → refusal < 256 → (refusal ≡ 0 → ⊥) → n ≡ bytes_of p
+    pub opens_book : {p : Printed} {n : ℕ} {end : List ℕ} → refusal < 256 → (refusal ≡ 0 → ⊥) → n ≡ bytes_of p
         → p ≡ printed (book_refused refusal) out → end ≡ after (book_refused refusal) out
         → Opens refusal input out (ended n 0) end
     unfolding opening_text
-    opens-book h d k e f =
+    opens_book h d k e f =
         opens {text = book_refused refusal} (rw (opening_text, ne_eqb refusal 0 d)) (sym (ap (λ (t : Bool). goes t (ltb 65536 input)) (ne_eqb refusal 0 d)))
         (stands (book_refused refusal) out (omega (arith, room, room_enough.book refusal h)) k e f)
 
-    pub opens-long : {r : Stepped} {end : List ℕ} → refusal ≡ 0 → 65536 < input → r ≡ stopped 1 0
+    pub opens_long : {r : Stepped} {end : List ℕ} → refusal ≡ 0 → 65536 < input → r ≡ stopped 1 0
         → end ≡ query_refused 1 ++ drop (length (query_refused 1)) out → Opens refusal input out r end
     unfolding opening_text
-    opens-long z l k f =
+    opens_long z l k f =
         let (a, s) = opens {text = query_refused 1} (rw (opening_text, eq-eqb refusal 0 z, lt-ltb 65536 input l))
         (sym (ap₂ goes (eq-eqb refusal 0 z) (lt-ltb 65536 input l))) (refl, f) in
         (k ∙ a, s)
 
-    pub opens-run : refusal ≡ 0 → input ≤ 65536
+    pub opens_run : refusal ≡ 0 → input ≤ 65536
         → Opens refusal input out (record { printed = 0; read = 0; serial = 0; more = true }) out
     unfolding opening_text
-    opens-run z l =
+    opens_run z l =
         opens {text = []} (rw (opening_text, eq-eqb refusal 0 z, le-ltb 65536 input l))
         (sym (ap₂ goes (eq-eqb refusal 0 z) (le-ltb 65536 input l))) (refl, refl)
 
@@ -136,23 +136,23 @@ module _ (b : List ℕ) {book : Book} (e : book ≡ book_of (read b)) (q : List 
   module _ (y : book.refusal ≡ 0) {maximal : List ℕ} {query : Query}
       (m : maximal ≡ take book.maximals book.maximal)
       (w : query ≡ Querying.query_of (Querying.read book.scheme maximal q)) where
-    good-number : (read b).number ≡ 0
-    good-number = sym (number_is b e) ∙ y
+    good_number : (read b).number ≡ 0
+    good_number = sym (number_is b e) ∙ y
 
-    pub kinds-no-query : {k : ItemKinds} → (query.refusal ≡ 0 → ⊥) → NoKinds k → ItemKindsOf b q k
-    kinds-no-query d z = none_are z (none_of_query b q (λ x. d (query-number b e y q m w ∙ x)))
+    pub kinds_no_query : {k : ItemKinds} → (query.refusal ≡ 0 → ⊥) → NoKinds k → ItemKindsOf b q k
+    kinds_no_query d z = none_are z (none_of_query b q (λ x. d (query_number b e y q m w ∙ x)))
 
     module _ (x : query.refusal ≡ 0) where
-      pub query-there : GoodAsked book query.asked
-      query-there = record { bytes = b; is_read = e; askable = record { asking = _; by = asked_by b e y q m w x } }
+      pub query_there : GoodAsked book query.asked
+      query_there = record { bytes = b; is_read = e; askable = record { asking = _; by = asked_by b e y q m w x } }
 
-      pub kinds-there : {k : ItemKinds} → KindsOf book query.asked k → ItemKindsOf b q k
-      kinds-there k = record {
+      pub kinds_there : {k : ItemKinds} → KindsOf book query.asked k → ItemKindsOf b q k
+      kinds_there k = record {
         long = k.long;
         few = k.few;
         are =
             k.each b (query_read (read b) q).asking e (asked_by b e y q m w x)
-            ∙ sym (those_of_items b q good-number (sym (query-number b e y q m w) ∙ x));
+            ∙ sym (those_of_items b q good_number (sym (query_number b e y q m w) ∙ x));
       }
 
 -- ---- a step
@@ -194,44 +194,44 @@ module _ (b q : List ℕ) (serial : ℕ) (space out : List ℕ) (long : length s
   -- ---- one that is answered
 
   module _ (z : a.refusal ≡ 0) where
-    answered-number : number_of b q serial ≡ 0
-    answered-number =
+    answered_number : number_of b q serial ≡ 0
+    answered_number =
         ⊎_elim (λ y. eqb-true (number_of b q serial) 0 y)
         (λ n. sym (number_given (eqb-false (number_of b q serial) 0 n)) ∙ z) (yes_or_no (eqb (number_of b q serial) 0))
 
-    answer-is : a ≡ record {
+    answer_is : a ≡ record {
       refusal = 0;
       rows = length (rows_answered b q);
       serial = serial + 1;
       read = (query_read (read b) q).read;
     }
     unfolding answer_of
-    answer-is = answer_here ∙ rw (answer_of, eq-eqb (number_of b q serial) 0 answered-number)
+    answer_is = answer_here ∙ rw (answer_of, eq-eqb (number_of b q serial) 0 answered_number)
 
     -- what is printed is said of the answer that the definition has
     same_answer : {A : Type 0} {kinds : List ℕ} (f : ℕ → ℕ → List ℕ → List ℕ → A) → kinds ≡ kinds_of b q
         → f a.serial a.rows kinds cells
         ≡ f (serial + 1) (length (rows_answered b q)) (kinds_of b q) (space_after b q serial space)
     same_answer {kinds = kinds} f k =
-        ap (λ (x : Answer). f x.serial x.rows kinds cells) answer-is
+        ap (λ (x : Answer). f x.serial x.rows kinds cells) answer_is
         ∙ ap₂ (f (serial + 1) (length (rows_answered b q))) k s
 
-    pub step-goes-on : {kinds end : List ℕ} {p : Printed} {n : ℕ} → serial < 2 ^ 32 → kinds ≡ kinds_of b q
+    pub step_goes_on : {kinds end : List ℕ} {p : Printed} {n : ℕ} → serial < 2 ^ 32 → kinds ≡ kinds_of b q
         → n ≡ bytes_of p → p ≡ answer_printed a.serial a.rows kinds cells out
         → end ≡ after_answer a.serial a.rows kinds cells out
         → Steps b q serial space out
         (record { printed = n; read = a.read; serial = a.serial; more = true }) cells end
-    step-goes-on {kinds} {end} {p} h k l g f =
-        let v = answered_prints b q serial space answered-number h long in
+    step_goes_on {kinds} {end} {p} h k l g f =
+        let v = answered_prints b q serial space answered_number h long in
         let (i, j) = (answer_printed_law (serial + 1) (length (rows_answered b q)) (kinds_of b q) (space_after b q serial space) out).fit
         v.fit in
         let (x, y) = stands (full_text b q serial) out (omega (arith, fits, v.fits)) l
         (g ∙ same_answer (λ m r ks cs. answer_printed m r ks cs out) k ∙ i ∙ ap (λ (t : List ℕ). printed t out) (sym v.text))
         (f ∙ same_answer (λ m r ks cs. after_answer m r ks cs out) k ∙ j ∙ ap (λ (t : List ℕ). after t out) (sym v.text)) in (
           ap₂ {C = Stepped} (λ (m : ℕ) (w : Answer). record { printed = m; read = w.read; serial = w.serial; more = true }) x
-              answer-is
-              ∙ step_answered_fact b q serial answered-number,
-          (s, y ∙ ap (λ (l : List ℕ). l ++ drop (length l) out) (text_answered b q serial answered-number)),
+              answer_is
+              ∙ step_answered_fact b q serial answered_number,
+          (s, y ∙ ap (λ (l : List ℕ). l ++ drop (length l) out) (text_answered b q serial answered_number)),
         )
 
 -- one whose query is refused for itself, and one whose query is good
@@ -248,30 +248,30 @@ module _ (b q : List ℕ) (serial : ℕ) (space out : List ℕ) (long : length s
   unfolding refused
   query_ends d k f =
       let r : Answer = record { refusal = query.refusal; rows = 0; serial = serial; read = 0 } in
-      let (a, s) = refused-query b e good_here q m w serial space {r = r} d refl in
+      let (a, s) = refused_query_law b e good_here q m w serial space {r = r} d refl in
       step_ends b q serial space out long fits a s d k f
 
   module _ (x : query.refusal ≡ 0) where
-    pub query-asked : Askable query.asked
-    query-asked = record { asking = _; by = asked_by b e good_here q m w x }
+    pub query_asked : Askable query.asked
+    query_asked = record { asking = _; by = asked_by b e good_here q m w x }
 
     module _ {a : Answer} {cells : List ℕ}
         (f : AnswersAsked b query.asked query.read serial (length space) a)
         (g : FillsAsked b query.asked serial space cells) where
       given : (a ≡ answer_of b q serial (length space)) × (cells ≡ space_after b q serial space)
-      given = answered-whole b e good_here q m w x space f g
+      given = answered_whole b e good_here q m w x space f g
 
-      pub asked-ends : {r : Stepped} {end : List ℕ} → (a.refusal ≡ 0 → ⊥) → r ≡ stopped a.refusal serial
+      pub asked_ends : {r : Stepped} {end : List ℕ} → (a.refusal ≡ 0 → ⊥) → r ≡ stopped a.refusal serial
           → end ≡ query_refused a.refusal ++ drop (length (query_refused a.refusal)) out
           → Steps b q serial space out r cells end
-      asked-ends = step_ends b q serial space out long fits given.0 given.1
+      asked_ends = step_ends b q serial space out long fits given.0 given.1
 
-      pub asked-goes-on : {k : ItemKinds} {end : List ℕ} {p : Printed} {n : ℕ} → a.refusal ≡ 0 → serial < 2 ^ 32
+      pub asked_goes_on : {k : ItemKinds} {end : List ℕ} {p : Printed} {n : ℕ} → a.refusal ≡ 0 → serial < 2 ^ 32
           → KindsOf book query.asked k → n ≡ bytes_of p
           → p ≡ answer_printed a.serial a.rows (take k.items k.kinds) cells out
           → end ≡ after_answer a.serial a.rows (take k.items k.kinds) cells out
           → Steps b q serial space out
           (record { printed = n; read = a.read; serial = a.serial; more = true }) cells end
-      asked-goes-on z h k =
-          step-goes-on b q serial space out long fits given.0 given.1 z h
+      asked_goes_on z h k =
+          step_goes_on b q serial space out long fits given.0 given.1 z h
           (k.each b (query_read (read b) q).asking e (asked_by b e good_here q m w x))

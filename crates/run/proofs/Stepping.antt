@@ -81,8 +81,8 @@ module _ (b q : List ℕ) (serial : ℕ) where
       (λ d. sym (ap (λ (s : Stepped). s.printed) (step_refused_fact d)) ∙ ap length (text_refused d))
 
   module _ (h : serial < 2 ^ 32) where
-    answered-inside : number_of b q serial ≡ 0 → StepInside b q serial
-    answered-inside z =
+    answered_inside : number_of b q serial ≡ 0 → StepInside b q serial
+    answered_inside z =
         let v = answered_prints b q serial (replicate 8192 0) z h (length-replicate {A = ℕ} 8192 0) in
         let e = step_answered_fact z in
         record {
@@ -92,8 +92,8 @@ module _ (b q : List ℕ) (serial : ℕ) where
           serials = subst (λ (s : Stepped). s.serial < 2 ^ 32) e v.serials;
         }
 
-    refused-inside : (number_of b q serial ≡ 0 → ⊥) → StepInside b q serial
-    refused-inside d =
+    refused_inside : (number_of b q serial ≡ 0 → ⊥) → StepInside b q serial
+    refused_inside d =
         let e = step_refused_fact d in
         let k = room_enough.query (number_of b q serial) (below_256 (answer_number_means b q serial 8192).one_of) in
         record {
@@ -104,7 +104,7 @@ module _ (b q : List ℕ) (serial : ℕ) where
         }
 
     pub step_inside : StepInside b q serial
-    step_inside = answered_or_refused answered-inside refused-inside
+    step_inside = answered_or_refused answered_inside refused_inside
 
 -- whether a run goes on behind its opening: the book is good, and the input not too long
 abbrev pub goes : Bool → Bool → Bool
@@ -210,41 +210,41 @@ module _ (b : List ℕ) where
           | false ↦ book_refused (read b).number
         ]
 
-    printed-opening : (opening_of (read b).number (length input)).more ≡ false
+    printed_opening : (opening_of (read b).number (length input)).more ≡ false
         → printout b input ≡ opening_text (read b).number (length input)
     unfolding opening_of opening_text printout
-    printed-opening m = by (eqb (read b).number 0) (ltb 65536 (length input)) m
+    printed_opening m = by (eqb (read b).number 0) (ltb 65536 (length input)) m
       where
         by : (t u : Bool) → goes t u ≡ false → says (answers b input 0) t u ≡ says [] t u
         by false u m = refl
         by true true m = refl
         by true false m = absurd (yes_no refl m)
 
-    nothing-before : Going → opening_text (read b).number (length input) ≡ []
+    nothing_before : Going → opening_text (read b).number (length input) ≡ []
     unfolding opening_of opening_text
-    nothing-before m = by (eqb (read b).number 0) (ltb 65536 (length input)) m
+    nothing_before m = by (eqb (read b).number 0) (ltb 65536 (length input)) m
       where
         by : (t u : Bool) → goes t u ≡ true → says [] t u ≡ []
         by false u m = absurd (yes_no m refl)
         by true true m = absurd (yes_no m refl)
         by true false m = refl
 
-    printed-answers : Going → answers b input 0 ≡ printout b input
+    printed_answers : Going → answers b input 0 ≡ printout b input
     unfolding opening_of printout
-    printed-answers m = by (eqb (read b).number 0) (ltb 65536 (length input)) m
+    printed_answers m = by (eqb (read b).number 0) (ltb 65536 (length input)) m
       where
         by : (t u : Bool) → goes t u ≡ true → answers b input 0 ≡ says (answers b input 0) t u
         by false u m = absurd (yes_no m refl)
         by true true m = absurd (yes_no m refl)
         by true false m = refl
 
-    book-only : (n : ℕ) → 0 < n → (read b).number ≡ n → printout b input ≡ book_refused n
+    book_only : (n : ℕ) → 0 < n → (read b).number ≡ n → printout b input ≡ book_refused n
     unfolding printout
-    book-only n h e = rw (printout, ne_eqb (read b).number 0 (λ z. omega (arith, h, e, z))) (ap book_refused e)
+    book_only n h e = rw (printout, ne_eqb (read b).number 0 (λ z. omega (arith, h, e, z))) (ap book_refused e)
 
-    long-only : (read b).number ≡ 0 → 65536 < length input → printout b input ≡ query_refused 1
+    long_only : (read b).number ≡ 0 → 65536 < length input → printout b input ≡ query_refused 1
     unfolding printout
-    long-only z l = rw (printout, eq-eqb (read b).number 0 z, lt-ltb 65536 (length input) l)
+    long_only z l = rw (printout, eq-eqb (read b).number 0 z, lt-ltb 65536 (length input) l)
 
     going : (read b).number ≡ 0 → length input ≤ 65536 → Going
     unfolding opening_of
@@ -253,16 +253,16 @@ module _ (b : List ℕ) where
     pub run_prints : RunPrints b input
     unfolding answers
     run_prints = record {
-      opening = printed-opening;
-      nothing = nothing-before;
-      steps = λ m. subst (Steps b input 0) (printed-answers m) (steps_within (length input) input 0 (le_refl (length input)));
-      only = λ m text s. only_within s (length input) (le_refl (length input)) ∙ printed-answers m;
+      opening = printed_opening;
+      nothing = nothing_before;
+      steps = λ m. subst (Steps b input 0) (printed_answers m) (steps_within (length input) input 0 (le_refl (length input)));
+      only = λ m text s. only_within s (length input) (le_refl (length input)) ∙ printed_answers m;
       counted = text_counted b;
-      refused_book = book-only;
-      too_long = long-only;
+      refused_book = book_only;
+      too_long = long_only;
       answered = λ z l.
           let m = going z l in
-          subst (Steps b input 0) (printed-answers m) (steps_within (length input) input 0 (le_refl (length input)));
+          subst (Steps b input 0) (printed_answers m) (steps_within (length input) input 0 (le_refl (length input)));
       step_answered = λ q serial z. sym (text_answered b q serial z);
       step_refused = λ q serial n h e.
           sym (text_refused b q serial (λ z. omega (arith, h, e, z))) ∙ ap query_refused e;

@@ -13,7 +13,7 @@ use Rattle.sets.specs.Sets.{◌⊆◌, within, ◌∪◌, ATTRIBUTES}
 use Rattle.sets.proofs.Sets.{⊆_refl, ⊆_trans, ext, ∪_⊆, ⊆_∪_left, ⊆_∪_right, within_yes, yes_within, ⊆_le, ∪_lt}
 use Rattle.scheme.specs.Dependencies.{Dependency, Closed, LeastClosed, pass, passes, closure}
 use Rattle.scheme.specs.Statements.{DeterminesAttributes}
-use Rattle.scheme.proofs.Repeating.{Repeats, Grows, EndsIn, repeats_⊆, repeats-ends}
+use Rattle.scheme.proofs.Repeating.{Repeats, Grows, EndsIn, repeats_⊆, repeats_ends}
 
 -- ---- one dependency
 
@@ -102,7 +102,7 @@ pass_grows D A h = pass-⊇ D A
 module _ (D : List Dependency) (o : DeterminesAttributes D) where
   closure_ends : {A : ℕ} → A < 2 ^ ATTRIBUTES → EndsIn (passes_repeat D) ATTRIBUTES A (closure D A)
   unfolding closure
-  closure_ends {A} h = repeats-ends (passes_repeat D) ATTRIBUTES (pass_grows D) (pass_lt D o) (2 ^ ATTRIBUTES) A h
+  closure_ends {A} h = repeats_ends (passes_repeat D) ATTRIBUTES (pass_grows D) (pass_lt D o) (2 ^ ATTRIBUTES) A h
       (omega arith)
 
   pub closure_least : {A : ℕ} → A < 2 ^ ATTRIBUTES → LeastClosed D A (closure D A)

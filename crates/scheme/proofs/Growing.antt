@@ -26,7 +26,7 @@ use Rattle.scheme.specs.Growing.{family_of, attributes_of, joins, NoneJoins, Lea
 use Rattle.scheme.specs.Growing.{holding, round, rounds, grown}
 use Rattle.scheme.specs.OfScheme.{NotJoined}
 use Rattle.scheme.specs.Statements.{Bounded, Shared, JoinsByTheRule, GrownInEveryOrder}
-use Rattle.scheme.proofs.Repeating.{Repeats, Grows, EndsIn, repeats_⊆, repeats-ends}
+use Rattle.scheme.proofs.Repeating.{Repeats, Grows, EndsIn, repeats_⊆, repeats_ends}
 use Rattle.scheme.proofs.Closing.{closure_least, closure_mono}
 
 -- ---- the attributes held
@@ -158,25 +158,25 @@ module _ (D : List Dependency) (sets : List ℕ) (objects : ℕ) where
   grown_ends : {start : ℕ} → start < OBJECTS → EndsIn rounds_repeat OBJECTS (single start) (grown D sets objects start)
   unfolding grown
   grown_ends {start} h =
-      repeats-ends rounds_repeat OBJECTS round_grows round_lt (2 ^ OBJECTS) (single start) (single_lt OBJECTS h)
+      repeats_ends rounds_repeat OBJECTS round_grows round_lt (2 ^ OBJECTS) (single start) (single_lt OBJECTS h)
       (omega arith)
 
   -- ---- the rule
 
   module _ (o : Bounded D sets objects) where
     -- with more objects held, no fewer can be held
-    pub joins-mono : {H K : ℕ} → H ⊆ K → (k : ℕ) → joins D sets H k ≡ true → joins D sets K k ≡ true
+    pub joins_mono : {H K : ℕ} → H ⊆ K → (k : ℕ) → joins D sets H k ≡ true → joins D sets K k ≡ true
     unfolding joins
-    joins-mono {H} {K} h k e =
+    joins_mono {H} {K} h k e =
         let s : ℕ = get_or sets k 0 in
         within_yes (⊆_trans (yes_within s (closure D (s ∩ attributes_of sets H)) e)
         (closure_mono D o.dependencies (∩_lt (attributes_of sets K) ATTRIBUTES (set_lt sets o.attributes k))
         (∩_mono s (attributes_mono sets h))))
 
     -- there is one least closed set around the attributes shared, the closure
-    pub joins-by-the-rule : {H : ℕ} → H < 2 ^ OBJECTS → (k : ℕ) → JoinsByTheRule D sets H k
+    pub joins_by_the_rule : {H : ℕ} → H < 2 ^ OBJECTS → (k : ℕ) → JoinsByTheRule D sets H k
     unfolding joins
-    joins-by-the-rule {H} h k =
+    joins_by_the_rule {H} h k =
         let s : ℕ = get_or sets k 0 in
         let A : ℕ = s ∩ attributes_of sets H in
         let c = closure_least D o.dependencies (∩_lt (attributes_of sets H) ATTRIBUTES
@@ -197,18 +197,18 @@ module _ (D : List Dependency) (sets : List ℕ) (objects : ℕ) where
             record { own = ∩_left (get_or sets k 0) (attributes_of sets H) i; holder = w.0; held = w.1; theirs = w.2 }
 
     -- a set that no object joins keeps what grows inside it
-    joins-inside : {H S : ℕ} → NoneJoins D sets objects S → H ⊆ S → (k : ℕ) → k ∈ objects → joins D sets H k ≡ true
+    joins_inside : {H S : ℕ} → NoneJoins D sets objects S → H ⊆ S → (k : ℕ) → k ∈ objects → joins D sets H k ≡ true
         → k ∈ S
-    joins-inside n h k i e = n.held k i (joins-mono h k e)
+    joins_inside n h k i e = n.held k i (joins_mono h k e)
 
-    round-⊆ : {S : ℕ} → NoneJoins D sets objects S → (H : ℕ) → H ⊆ S → round D sets objects H ⊆ S
-    round-⊆ {S} n H h = record {
-      each = λ {k} i. ⊎_elim (λ m. h.each m) (λ p. joins-inside n h k p.0 p.1)
+    round_⊆ : {S : ℕ} → NoneJoins D sets objects S → (H : ℕ) → H ⊆ S → round D sets objects H ⊆ S
+    round_⊆ {S} n H h = record {
+      each = λ {k} i. ⊎_elim (λ m. h.each m) (λ p. joins_inside n h k p.0 p.1)
           (held_or_joins H k (in_holding H OBJECTS i).1);
     }
 
-    round-fixed : {H : ℕ} → round D sets objects H ≡ H → NoneJoins D sets objects H
-    round-fixed {H} e = record {
+    round_fixed : {H : ℕ} → round D sets objects H ≡ H → NoneJoins D sets objects H
+    round_fixed {H} e = record {
       held = λ k i j. subst (λ (x : ℕ). k ∈ x) e
           (holding_in H OBJECTS (member_lt OBJECTS o.declared i) (or_right (has H k) (and_yes (has_yes i) j)));
     }
@@ -216,23 +216,23 @@ module _ (D : List Dependency) (sets : List ℕ) (objects : ℕ) where
     -- ---- the grown set
 
     module _ {start : ℕ} (i : start ∈ objects) where
-      start-lt : start < OBJECTS
-      start-lt = member_lt OBJECTS o.declared i
+      start_lt : start < OBJECTS
+      start_lt = member_lt OBJECTS o.declared i
 
-      pub grown-least : LeastGrown D sets objects start (grown D sets objects start)
+      pub grown_least : LeastGrown D sets objects start (grown D sets objects start)
       unfolding grown
-      grown-least = record {
-        holds_start = (grown_ends start-lt).around.each (single_in start);
-        closed = round-fixed (grown_ends start-lt).fixed;
-        least = λ H m n. repeats_⊆ rounds_repeat (round-⊆ n) (2 ^ OBJECTS) (single start) (start-in m);
+      grown_least = record {
+        holds_start = (grown_ends start_lt).around.each (single_in start);
+        closed = round_fixed (grown_ends start_lt).fixed;
+        least = λ H m n. repeats_⊆ rounds_repeat (round_⊆ n) (2 ^ OBJECTS) (single start) (start_in m);
       }
         where
-          start-in : {H : ℕ} → start ∈ H → single start ⊆ H
-          start-in {H} m = record { each = λ s. subst (λ (x : ℕ). x ∈ H) (sym (in_single s)) m }
+          start_in : {H : ℕ} → start ∈ H → single start ⊆ H
+          start_in {H} m = record { each = λ s. subst (λ (x : ℕ). x ∈ H) (sym (in_single s)) m }
 
       -- it has declared objects only
-      pub grown-⊆ : grown D sets objects start ⊆ objects
-      grown-⊆ = grown-least.least objects i (record { held = λ k m e. m })
+      pub grown_⊆ : grown D sets objects start ⊆ objects
+      grown_⊆ = grown_least.least objects i (record { held = λ k m e. m })
 
     -- ---- every order
 
@@ -240,16 +240,16 @@ module _ (D : List Dependency) (sets : List ℕ) (objects : ℕ) where
     holding-⊇ {H} (ended n) = ⊆_refl H
     holding-⊇ {H} (hold k i m e w) = ⊆_trans (⊆_∪_left H (single k)) (holding-⊇ w)
 
-    holding-none : {H G : ℕ} → Holding D sets objects H G → NoneJoins D sets objects G
-    holding-none (ended n) = n
-    holding-none (hold k i m e w) = holding-none w
+    holding_none : {H G : ℕ} → Holding D sets objects H G → NoneJoins D sets objects G
+    holding_none (ended n) = n
+    holding_none (hold k i m e w) = holding_none w
 
-    insert-⊆ : {H S : ℕ} (k : ℕ) → H ⊆ S → k ∈ S → insert H k ⊆ S
-    insert-⊆ {H} {S} k h m = ∪_⊆ h (record { each = λ s. subst (λ (x : ℕ). x ∈ S) (sym (in_single s)) m })
+    insert_⊆ : {H S : ℕ} (k : ℕ) → H ⊆ S → k ∈ S → insert H k ⊆ S
+    insert_⊆ {H} {S} k h m = ∪_⊆ h (record { each = λ s. subst (λ (x : ℕ). x ∈ S) (sym (in_single s)) m })
 
-    holding-⊆ : {H G S : ℕ} → Holding D sets objects H G → NoneJoins D sets objects S → H ⊆ S → G ⊆ S
-    holding-⊆ (ended _) n h = h
-    holding-⊆ {S = S} (hold k i m e w) n h = holding-⊆ w n (insert-⊆ k h (joins-inside n h k i e))
+    holding_⊆ : {H G S : ℕ} → Holding D sets objects H G → NoneJoins D sets objects S → H ⊆ S → G ⊆ S
+    holding_⊆ (ended _) n h = h
+    holding_⊆ {S = S} (hold k i m e w) n h = holding_⊆ w n (insert_⊆ k h (joins_inside n h k i e))
 
     -- an object that can be held next
     record NextHeld (H : ℕ) : Type 0 where
@@ -269,11 +269,11 @@ module _ (D : List Dependency) (sets : List ℕ) (objects : ℕ) where
             subst (λ (x : ℕ). x ∈ H) (sym q)
             (here (subst (λ (x : ℕ). x ∈ objects) q i) (subst (λ (x : ℕ). joins D sets H x ≡ true) q e))
 
-    next-or-none : (H n : ℕ) → NextHeld H ⊎ NoneBelow H n
-    next-or-none H zero = inr (λ k l. absurd (not-suc-le-zero l))
-    next-or-none H (suc n) =
+    next_or_none : (H n : ℕ) → NextHeld H ⊎ NoneBelow H n
+    next_or_none H zero = inr (λ k l. absurd (not-suc-le-zero l))
+    next_or_none H (suc n) =
         ⊎_elim inl (λ none. newest none (member_or_not n objects) (member_or_not n H) (yes_or_no (joins D sets H n)))
-        (next-or-none H n)
+        (next_or_none H n)
       where
         newest : NoneBelow H n → (n ∈ objects) ⊎ (n ∉ objects) → (n ∈ H) ⊎ (n ∉ H)
             → (joins D sets H n ≡ true) ⊎ (joins D sets H n ≡ false) → NextHeld H ⊎ NoneBelow H (suc n)
@@ -283,12 +283,12 @@ module _ (D : List Dependency) (sets : List ℕ) (objects : ℕ) where
         newest none (inl i) (inr m) (inr x) = inr (none_more none (λ _ e. absurd (yes_no e x)))
 
     -- from every set of objects some order leads to an end
-    some-order : (n H : ℕ) → H < 2 ^ OBJECTS → 2 ^ OBJECTS ≤ H + n → (G : ℕ) × Holding D sets objects H G
-    some-order zero H h enough = absurd (omega arith)
-    some-order (suc n) H h enough =
-        ⊎_elim (λ x. after x (λ l g. some-order n (insert H x.object) l (omega arith)))
+    some_order : (n H : ℕ) → H < 2 ^ OBJECTS → 2 ^ OBJECTS ≤ H + n → (G : ℕ) × Holding D sets objects H G
+    some_order zero H h enough = absurd (omega arith)
+    some_order (suc n) H h enough =
+        ⊎_elim (λ x. after x (λ l g. some_order n (insert H x.object) l (omega arith)))
         (λ none. (H, ended (record { held = λ k i e. none k (member_lt OBJECTS o.declared i) i e })))
-        (next-or-none H OBJECTS)
+        (next_or_none H OBJECTS)
       where
         after : (x : NextHeld H)
             → (insert H x.object < 2 ^ OBJECTS → H < insert H x.object
@@ -304,16 +304,16 @@ module _ (D : List Dependency) (sets : List ℕ) (objects : ℕ) where
             (r.0, hold k x.declared x.new x.joining r.1)
 
     module _ {start : ℕ} (i : start ∈ objects) where
-      every-order : {G : ℕ} → Holding D sets objects (single start) G → G ≡ grown D sets objects start
-      every-order {G} w =
-          let g = grown-least i in
-          ext (holding-⊆ w g.closed (grown_ends (start-lt i)).around)
-          (g.least G ((holding-⊇ w).each (single_in start)) (holding-none w))
+      every_order : {G : ℕ} → Holding D sets objects (single start) G → G ≡ grown D sets objects start
+      every_order {G} w =
+          let g = grown_least i in
+          ext (holding_⊆ w g.closed (grown_ends (start_lt i)).around)
+          (g.least G ((holding-⊇ w).each (single_in start)) (holding_none w))
 
-      pub grown-in-every-order : GrownInEveryOrder D sets objects start
-      grown-in-every-order =
-          let w = some-order (2 ^ OBJECTS) (single start) (single_lt OBJECTS (start-lt i)) (omega arith) in
+      pub grown_in_every_order : GrownInEveryOrder D sets objects start
+      grown_in_every_order =
+          let w = some_order (2 ^ OBJECTS) (single start) (single_lt OBJECTS (start_lt i)) (omega arith) in
           record {
-            every = λ G v. every-order v;
-            some = subst (Holding D sets objects (single start)) (every-order w.1) w.1;
+            every = λ G v. every_order v;
+            some = subst (Holding D sets objects (single start)) (every_order w.1) w.1;
           }

@@ -68,17 +68,17 @@ module _ {test : ℕ → Bool} {some : List ℕ → Bool} (p : Asks test some) w
   none_start l = record { inside = omega arith; rest = refl }
 
   module _ {l : List ℕ} {i : ℕ} (v : NoneSoFar l i) (h : i < length l) where
-    none-front : (test (get_or l i 0) || some (drop (i + 1) l)) ≡ some l
-    none-front =
+    none_front : (test (get_or l i 0) || some (drop (i + 1) l)) ≡ some l
+    none_front =
         sym (p.more (get_or l i 0) (drop (i + 1) l)) ∙ ap some (sym (drop_at l h)) ∙ v.rest
 
     pub none_found : test (get_or l i 0) ≡ true → true ≡ some l
-    none_found t = sym (or_left (some (drop (i + 1) l)) t) ∙ none-front
+    none_found t = sym (or_left (some (drop (i + 1) l)) t) ∙ none_front
 
-    pub none-next : test (get_or l i 0) ≡ false → NoneSoFar l (i + 1)
-    none-next n = record {
+    pub none_next : test (get_or l i 0) ≡ false → NoneSoFar l (i + 1)
+    none_next n = record {
       inside = add-one-le h;
-      rest = ap (λ (b : Bool). b || some (drop (i + 1) l)) (sym n) ∙ none-front;
+      rest = ap (λ (b : Bool). b || some (drop (i + 1) l)) (sym n) ∙ none_front;
     }
 
   pub none_end : {l : List ℕ} {i : ℕ} → NoneSoFar l i → length l ≤ i → false ≡ some l

@@ -223,15 +223,15 @@ module _ {D : List Dependency} {sets : List ℕ} {objects H k next : ℕ} (v : H
   -- the test of an object that is declared and not held, with the attributes held
   module _ (attributes : ℕ) (ea : attributes ≡ attributes_of sets H) (t : Bool)
       (et : t ≡ within (get_or sets k 0) (closure D (get_or sets k 0 ∩ attributes))) (declared : has objects k ≡ true) where
-    joins-by : joins D sets H k ≡ t
+    joins_by : joins D sets H k ≡ t
     unfolding joins
-    joins-by = sym (et ∙ ap (λ (x : ℕ). within (get_or sets k 0) (closure D (get_or sets k 0 ∩ x))) ea)
+    joins_by = sym (et ∙ ap (λ (x : ℕ). within (get_or sets k 0) (closure D (get_or sets k 0 ∩ x))) ea)
 
-    pub holding-joined : (r : ℕ) → t ≡ true → r ≡ insert next k → HoldingBelow D sets objects H (k + 1) r
-    holding-joined r y e = holding_with r (or_right (has H k) (and_yes declared (joins-by ∙ y))) e
+    pub holding_joined : (r : ℕ) → t ≡ true → r ≡ insert next k → HoldingBelow D sets objects H (k + 1) r
+    holding_joined r y e = holding_with r (or_right (has H k) (and_yes declared (joins_by ∙ y))) e
 
-    pub holding-apart : (r : ℕ) → has H k ≡ false → t ≡ false → r ≡ next → HoldingBelow D sets objects H (k + 1) r
-    holding-apart r n x e = holding_past r (ap₂ (λ (b c : Bool). b && c) declared (joins-by ∙ x)) n e
+    pub holding_apart : (r : ℕ) → has H k ≡ false → t ≡ false → r ≡ next → HoldingBelow D sets objects H (k + 1) r
+    holding_apart r n x e = holding_past r (ap₂ (λ (b c : Bool). b && c) declared (joins_by ∙ x)) n e
 
 pub holding_end : {D : List Dependency} {sets : List ℕ} {objects H k next : ℕ} → HoldingBelow D sets objects H k next
     → OBJECTS ≤ k → next ≡ round D sets objects H

@@ -25,7 +25,7 @@ use Rattle.scheme.specs.MaximalObjects.{all_grown, computed, counted, removing, 
 use Rattle.scheme.specs.Statements.{Bounded, LowestStart, ComputedList, SomeObjects, MaximalObjectList}
 use Rattle.scheme.proofs.KeptOrder.{KeptAt, kept_at, kept_in_order, kept_first, lies_in_kept, kept_widest}
 use Rattle.scheme.proofs.KeptOrder.{length_kept}
-use Rattle.scheme.proofs.Growing.{map_in, grown-least, grown-⊆}
+use Rattle.scheme.proofs.Growing.{map_in, grown_least, grown_⊆}
 use Rattle.scheme.proofs.Lists.{leaves_out_in, none_twice_nil}
 use Rattle.scheme.proofs.Removals.{removal, addition, length_removing, length_adding}
 
@@ -60,38 +60,38 @@ module _ (D : List Dependency) (sets : List ℕ) (objects : ℕ) where
 
   module _ (o : Bounded D sets objects) where
     -- the place of a start
-    start-at : {p : ℕ} → p < length starts → get_or starts p 0 ∈ objects
+    start_at : {p : ℕ} → p < length starts → get_or starts p 0 ∈ objects
     unfolding starts
-    start-at {p} h = (members_only OBJECTS objects (mem_at (members OBJECTS objects) p h)).1
+    start_at {p} h = (members_only OBJECTS objects (mem_at (members OBJECTS objects) p h)).1
 
-    grown-in : {k : ℕ} → k ∈ objects → Memᴰ (grown D sets objects k) grown_sets
-    grown-in i = map_in (grown D sets objects) (members_has OBJECTS (member_lt OBJECTS o.declared i) i)
+    grown_in : {k : ℕ} → k ∈ objects → Memᴰ (grown D sets objects k) grown_sets
+    grown_in i = map_in (grown D sets objects) (members_has OBJECTS (member_lt OBJECTS o.declared i) i)
 
-    starts-ascend : {p q : ℕ} → p < q → q < length starts → get_or starts p 0 < get_or starts q 0
+    starts_ascend : {p q : ℕ} → p < q → q < length starts → get_or starts p 0 < get_or starts q 0
     unfolding starts
-    starts-ascend l h = members_ascending OBJECTS objects 0 l h
+    starts_ascend l h = members_ascending OBJECTS objects 0 l h
 
     -- a start stands at its rank, which is no lower than the first place with its set
     module _ {j : ℕ} (i : j ∈ objects) where
-      rank-there : rank objects j < length starts
+      rank_there : rank objects j < length starts
       unfolding starts
-      rank-there =
+      rank_there =
           subst (λ (n : ℕ). rank objects j < n) (sym (length_members OBJECTS objects))
           (rank_lt_count OBJECTS o.declared i)
 
-      at-rank : get_or starts (rank objects j) 0 ≡ j
+      at_rank_law : get_or starts (rank objects j) 0 ≡ j
       unfolding starts
-      at-rank = get_d_members OBJECTS 0 (member_lt OBJECTS o.declared i) i
+      at_rank_law = get_d_members OBJECTS 0 (member_lt OBJECTS o.declared i) i
 
-      grown-at-rank : at grown_sets (rank objects j) ≡ grown D sets objects j
+      grown_at_rank : at grown_sets (rank objects j) ≡ grown D sets objects j
       unfolding starts
-      grown-at-rank = get_d_map (grown D sets objects) starts rank-there ∙ ap (grown D sets objects) at-rank
+      grown_at_rank = get_d_map (grown D sets objects) starts rank_there ∙ ap (grown D sets objects) at_rank_law
 
-      first-place : {M : ℕ} (p : KeptAt grown_sets (length grown_sets) M) → grown D sets objects j ≡ M
+      first_place : {M : ℕ} (p : KeptAt grown_sets (length grown_sets) M) → grown D sets objects j ≡ M
           → p.place ≤ rank objects j
-      first-place p e =
-          kept_first grown_sets p.keeping (subst (λ (n : ℕ). rank objects j < n) (sym length_grown) rank-there)
-          (subst (λ (x : ℕ). at grown_sets p.place ⊆ x) (p.holds ∙ sym e ∙ sym grown-at-rank)
+      first_place p e =
+          kept_first grown_sets p.keeping (subst (λ (n : ℕ). rank objects j < n) (sym length_grown) rank_there)
+          (subst (λ (x : ℕ). at grown_sets p.place ⊆ x) (p.holds ∙ sym e ∙ sym grown_at_rank)
           (⊆_refl (at grown_sets p.place)))
 
     -- the start of a kept place is the lowest of its set
@@ -99,7 +99,7 @@ module _ (D : List Dependency) (sets : List ℕ) (objects : ℕ) where
         → LowestStart D sets objects M (get_or starts p.place 0)
     unfolding starts
     lowest_start {M} p = record {
-      declared = start-at below;
+      declared = start_at below;
       grows = sym (get_d_map (grown D sets objects) starts below) ∙ p.holds;
       lowest = lowest;
     }
@@ -109,57 +109,57 @@ module _ (D : List Dependency) (sets : List ℕ) (objects : ℕ) where
 
         lowest : (j : ℕ) → j ∈ objects → grown D sets objects j ≡ M → get_or starts p.place 0 ≤ j
         lowest j i e =
-            subst (λ (x : ℕ). get_or starts p.place 0 ≤ x) (at-rank i)
+            subst (λ (x : ℕ). get_or starts p.place 0 ≤ x) (at_rank_law i)
             (⊎_elim
             (λ q. subst (λ (x : ℕ). get_or starts p.place 0 ≤ get_or starts x 0) q (le_refl (get_or starts p.place 0)))
-            (λ l. le_of_lt (starts-ascend l (rank-there i)))
-            (eq-or-lt_of_le (first-place i p e)))
+            (λ l. le_of_lt (starts_ascend l (rank_there i)))
+            (eq-or-lt_of_le (first_place i p e)))
 
-    by-lowest-start : (i j a b : ℕ) → i < j → j < length (computed D sets objects)
+    by_lowest_start_law : (i j a b : ℕ) → i < j → j < length (computed D sets objects)
         → LowestStart D sets objects (at (computed D sets objects) i) a
         → LowestStart D sets objects (at (computed D sets objects) j) b → a < b
     unfolding computed starts
-    by-lowest-start i j a b h l s t =
+    by_lowest_start_law i j a b h l s t =
         let k = kept_in_order grown_sets (length grown_sets) h l in
         let s₀ = lowest_start k.first in
         let t₀ = lowest_start k.second in
         let ascends : get_or starts k.first.place 0 < get_or starts k.second.place 0 =
-        starts-ascend k.ordered (subst (λ (n : ℕ). k.second.place < n) length_grown k.second.below) in
+        starts_ascend k.ordered (subst (λ (n : ℕ). k.second.place < n) length_grown k.second.below) in
         lt_of_le_of_lt (s.lowest (get_or starts k.first.place 0) s₀.declared s₀.grows)
         (lt_of_lt_of_le ascends (t₀.lowest b t.declared t.grows))
 
-    pub computed-list : ComputedList D sets objects
+    pub computed_list : ComputedList D sets objects
     unfolding computed
-    computed-list = record {
+    computed_list = record {
       has_start = λ M m. let p = kept_at grown_sets (length grown_sets) m in (get_or starts p.place 0, lowest_start p);
-      in_no_other = λ M k m i h. kept_widest grown_sets m (grown-in i) h;
-      around = λ k i. lies_in_kept grown_sets (grown-in i) (grown-least D sets objects o i).holds_start;
+      in_no_other = λ M k m i h. kept_widest grown_sets m (grown_in i) h;
+      around = λ k i. lies_in_kept grown_sets (grown_in i) (grown_least D sets objects o i).holds_start;
       none_twice = kept_none_twice grown_sets;
-      by_lowest_start = by-lowest-start;
+      by_lowest_start = by_lowest_start_law;
       at_most = length_computed;
     }
 
     -- ---- the whole list
 
-    computed-objects : {M : ℕ} → Memᴰ M (computed D sets objects) → SomeObjects objects M
-    computed-objects {M} m =
-        let (k, s) = computed-list.has_start M m in
+    computed_objects : {M : ℕ} → Memᴰ M (computed D sets objects) → SomeObjects objects M
+    computed_objects {M} m =
+        let (k, s) = computed_list.has_start M m in
         subst (SomeObjects objects) s.grows (record {
-          filled = (k, (grown-least D sets objects o s.declared).holds_start);
-          inside = grown-⊆ D sets objects o s.declared;
+          filled = (k, (grown_least D sets objects o s.declared).holds_start);
+          inside = grown_⊆ D sets objects o s.declared;
         })
 
     -- those that count are computed ones
-    counted-in : (only : Bool) {M : ℕ} → Memᴰ M (counted only (computed D sets objects))
+    counted_in : (only : Bool) {M : ℕ} → Memᴰ M (counted only (computed D sets objects))
         → Memᴰ M (computed D sets objects)
     unfolding counted
-    counted-in true m = absurd (Memᴰ.not-nil m)
-    counted-in false m = m
+    counted_in true m = absurd (Memᴰ.not-nil m)
+    counted_in false m = m
 
-    counted-once : (only : Bool) → NoneTwice (counted only (computed D sets objects))
+    counted_once : (only : Bool) → NoneTwice (counted only (computed D sets objects))
     unfolding counted
-    counted-once true = none_twice_nil
-    counted-once false = computed-list.none_twice
+    counted_once true = none_twice_nil
+    counted_once false = computed_list.none_twice
 
     counted_few : (only : Bool) → length (counted only (computed D sets objects)) ≤ OBJECTS
     unfolding counted
@@ -170,25 +170,25 @@ module _ (D : List Dependency) (sets : List ℕ) (objects : ℕ) where
       abbrev counting : List ℕ
       counting = counted only (computed D sets objects)
 
-      some-objects : ((M : ℕ) → Memᴰ M declared → SomeObjects objects M)
+      some_objects_law : ((M : ℕ) → Memᴰ M declared → SomeObjects objects M)
           → (M : ℕ) → Memᴰ M (maximal_objects D sets objects only declared removed) → SomeObjects objects M
       unfolding maximal_objects
-      some-objects h M m =
-          ⊎_elim (λ c. computed-objects (counted-in only ((removal removed counting).was_there M c))) (λ d. h M d)
+      some_objects_law h M m =
+          ⊎_elim (λ c. computed_objects (counted_in only ((removal removed counting).was_there M c))) (λ d. h M d)
           ((addition (removing counting removed) declared).from_either M m)
 
       -- a declared set that does not stay is added
-      added-in : (M : ℕ) → Memᴰ M declared → (Memᴰ M (removing counting removed) → ⊥)
+      added_in : (M : ℕ) → Memᴰ M declared → (Memᴰ M (removing counting removed) → ⊥)
           → Memᴰ M (addition (removing counting removed) declared).ends
-      added-in M d n =
+      added_in M d n =
           let l = removing counting removed in
           let r = addition l declared in
           ⊎_elim (λ i. absurd (n i)) (λ i. i)
           (Memᴰ.append_cases l (subst (Memᴰ M) r.at_the_end (r.there M d)))
 
-      pub maximal-object-list : MaximalObjectList D sets objects only declared removed
+      pub maximal_object_list : MaximalObjectList D sets objects only declared removed
       unfolding maximal_objects counted
-      maximal-object-list =
+      maximal_object_list =
           let l = removing counting removed in
           let out = removal removed counting in
           let r = addition l declared in
@@ -201,10 +201,10 @@ module _ (D : List Dependency) (sets : List ℕ) (objects : ℕ) where
             whole = r.at_the_end;
             stays = λ M. (λ m. (out.was_there M m, out.not_named M m), λ p. out.stays M p.0 p.1);
             stay_in_order = out.ordered;
-            adds = λ M. (λ m. (leaves_out_in r.ordered m, r.new M m), λ p. added-in M p.0 p.1);
+            adds = λ M. (λ m. (leaves_out_in r.ordered m, r.new M m), λ p. added_in M p.0 p.1);
             added_in_order = r.by_first_place;
-            some_objects = some-objects;
-            none_twice = r.none_twice (out.none_twice (counted-once only));
+            some_objects = some_objects_law;
+            none_twice = r.none_twice (out.none_twice (counted_once only));
             at_most = omega (
               arith,
               length_adding l declared,

@@ -166,18 +166,18 @@ addition_there {l} {declared} {t} y r =
       at_the_end = e ∙ r.at_the_end;
       new = r.new;
       ordered = out t r.ordered;
-      by_first_place = by_first_place_there (λ s m q. r.new s m (isOne-eq q)) r.by_first_place;
+      by_first_place = by_first_place_there (λ s m q. r.new s m (is_one_eq q)) r.by_first_place;
       stays = λ s m. subst (Memᴰ s) (sym e) (r.stays s m);
       there = λ s m. subst (Memᴰ s) (sym e) (there s m);
       from_either = λ s m. ⊎_elim inl (λ d. inr (Memᴰ.tail d)) (r.from_either s (subst (Memᴰ s) e m));
       none_twice = λ n. subst NoneTwice (sym e) (r.none_twice n);
     }
   where
-    isOne-eq : {s : ℕ} → s ≡ t → Memᴰ s l
-    isOne-eq q = subst (λ (x : ℕ). Memᴰ x l) (sym q) (yes_is_one t l y)
+    is_one_eq : {s : ℕ} → s ≡ t → Memᴰ s l
+    is_one_eq q = subst (λ (x : ℕ). Memᴰ x l) (sym q) (yes_is_one t l y)
 
     there : (s : ℕ) → Memᴰ s (t ∷ declared) → Memᴰ s (adding l declared)
-    there s (Memᴰ.head q) = r.stays s (isOne-eq q)
+    there s (Memᴰ.head q) = r.stays s (is_one_eq q)
     there s (Memᴰ.tail m) = r.there s m
 
 addition_new : {l declared : List ℕ} {t : ℕ} → is_one t l ≡ false → Addition (l ++ t ∷ []) declared

@@ -54,11 +54,11 @@ module _ {f : ℕ → ℕ} {repeats : ℕ → ℕ → ℕ} (p : Repeats f repeat
     pub fixed : f G ≡ G
 
   module _ (w : ℕ) (grows : Grows w f) where
-    pub repeats-ends : ((A : ℕ) → A < 2 ^ w → f A < 2 ^ w) → (n A : ℕ) → A < 2 ^ w → 2 ^ w ≤ A + n
+    pub repeats_ends : ((A : ℕ) → A < 2 ^ w → f A < 2 ^ w) → (n A : ℕ) → A < 2 ^ w → 2 ^ w ≤ A + n
         → EndsIn w A (repeats n A)
-    repeats-ends fits zero A h enough = absurd (omega arith)
-    repeats-ends fits (suc n) A h enough =
-        ⊎_elim same (λ d. more d (λ l. repeats-ends fits n (f A) (fits A h) (omega arith))) (eq_or_ne (f A) A)
+    repeats_ends fits zero A h enough = absurd (omega arith)
+    repeats_ends fits (suc n) A h enough =
+        ⊎_elim same (λ d. more d (λ l. repeats_ends fits n (f A) (fits A h) (omega arith))) (eq_or_ne (f A) A)
       where
         same : f A ≡ A → EndsIn w A (repeats (suc n) A)
         same e =
@@ -79,25 +79,25 @@ module _ {f : ℕ → ℕ} {repeats : ℕ → ℕ → ℕ} (p : Repeats f repeat
       pub leads : repeats turns A ≡ whole
       pub step : next ≡ f A
       pub below : A < 2 ^ w
-      pub nextBelow : next < 2 ^ w
+      pub next_below_law : next < 2 ^ w
 
-    pub repeating-start : {whole A next : ℕ} → A < 2 ^ w → next < 2 ^ w → next ≡ f A → repeats (2 ^ w) A ≡ whole
+    pub repeating_start : {whole A next : ℕ} → A < 2 ^ w → next < 2 ^ w → next ≡ f A → repeats (2 ^ w) A ≡ whole
         → Repeating whole A next
-    repeating-start h l e q =
-        record { turns = 2 ^ w; enough = omega arith; leads = q; step = e; below = h; nextBelow = l }
+    repeating_start h l e q =
+        record { turns = 2 ^ w; enough = omega arith; leads = q; step = e; below = h; next_below_law = l }
 
     module _ {whole A next : ℕ} (v : Repeating whole A next) where
       larger : (next ≡ A → ⊥) → A < f A
       larger d = ⊆_lt (grows A v.below) (λ e. d (v.step ∙ sym e))
 
-      pub repeating-less : (next ≡ A → ⊥) → 2 ^ w - next < 2 ^ w - A
-      repeating-less d = omega (arith, larger d)
+      pub repeating_less : (next ≡ A → ⊥) → 2 ^ w - next < 2 ^ w - A
+      repeating_less d = omega (arith, larger d)
 
-      pub repeating-end : next ≡ A → A ≡ whole
-      repeating-end e = sym (repeats_same v.turns (sym v.step ∙ e)) ∙ v.leads
+      pub repeating_end : next ≡ A → A ≡ whole
+      repeating_end e = sym (repeats_same v.turns (sym v.step ∙ e)) ∙ v.leads
 
-      pub repeating-next : (r : ℕ) → (next ≡ A → ⊥) → r < 2 ^ w → r ≡ f next → Repeating whole next r
-      repeating-next r d h e = go v.turns v.enough v.leads
+      pub repeating_next : (r : ℕ) → (next ≡ A → ⊥) → r < 2 ^ w → r ≡ f next → Repeating whole next r
+      repeating_next r d h e = go v.turns v.enough v.leads
         where
           go : (n : ℕ) → 2 ^ w ≤ A + n → repeats n A ≡ whole → Repeating whole next r
           go zero enough leads = absurd (omega (arith, v.below))
@@ -106,6 +106,6 @@ module _ {f : ℕ → ℕ} {repeats : ℕ → ℕ → ℕ} (p : Repeats f repeat
             enough = omega (arith, larger d, v.step);
             leads = ap (repeats n) v.step ∙ sym (repeats_more n (λ q. d (v.step ∙ q))) ∙ leads;
             step = e;
-            below = v.nextBelow;
-            nextBelow = h;
+            below = v.next_below_law;
+            next_below_law = h;
           }

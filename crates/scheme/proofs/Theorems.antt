@@ -11,9 +11,9 @@ use Rattle.scheme.specs.Statements.{DeterminesAttributes, Bounded, JoinsByTheRul
 use Rattle.scheme.specs.Statements.{ComputedList, Removal, Addition}
 use Rattle.scheme.specs.Statements.{BothFault, CyclicFault, MaximalObjectList}
 use Rattle.scheme.proofs.Closing.{closure_least, closure_mono}
-use Rattle.scheme.proofs.Growing.{joins-by-the-rule, grown-least, grown-in-every-order}
+use Rattle.scheme.proofs.Growing.{joins_by_the_rule, grown_least, grown_in_every_order}
 use Rattle.scheme.proofs.Removals.{removal, addition, both_fault, cyclic_fault}
-use Rattle.scheme.proofs.MaximalObjects.{computed-list, maximal-object-list}
+use Rattle.scheme.proofs.MaximalObjects.{computed_list, maximal_object_list}
 
 -- ---- the closure
 
@@ -29,24 +29,24 @@ closure_is_monotone D o A B h s = closure_mono D o h s
 
 module _ (D : List Dependency) (sets : List ℕ) (objects : ℕ) (o : Bounded D sets objects) where
   pub object_joins_by_the_rule : (H : ℕ) → H < 2 ^ OBJECTS → (k : ℕ) → JoinsByTheRule D sets H k
-  object_joins_by_the_rule H h k = joins-by-the-rule D sets objects o h k
+  object_joins_by_the_rule H h k = joins_by_the_rule D sets objects o h k
 
   pub grown_is_least : (start : ℕ) → start ∈ objects → LeastGrown D sets objects start (grown D sets objects start)
-  grown_is_least start i = grown-least D sets objects o i
+  grown_is_least start i = grown_least D sets objects o i
 
   pub grown_is_the_same_in_every_order : (start : ℕ) → start ∈ objects → GrownInEveryOrder D sets objects start
-  grown_is_the_same_in_every_order start i = grown-in-every-order D sets objects o i
+  grown_is_the_same_in_every_order start i = grown_in_every_order D sets objects o i
 
   -- ---- the computed list
 
   pub computed_is_the_list : ComputedList D sets objects
-  computed_is_the_list = computed-list D sets objects o
+  computed_is_the_list = computed_list D sets objects o
 
   -- ---- the list of maximal objects
 
   pub maximal_objects_are_the_list : (only : Bool) (declared removed : List ℕ)
       → MaximalObjectList D sets objects only declared removed
-  maximal_objects_are_the_list only declared removed = maximal-object-list D sets objects o only declared removed
+  maximal_objects_are_the_list only declared removed = maximal_object_list D sets objects o only declared removed
 
 -- ---- removals and declarations
 

@@ -96,10 +96,10 @@ member_lt w h m = lt_of_not-le (λ l. in_out m (out_above h l))
 -- a number whose members all lie below w has w bits
 pub lt_of_members : (s w : ℕ) → ((k : ℕ) → k ∈ s → k < w) → s < 2 ^ w
 lt_of_members s w h =
-    below (no_bits (s / 2 ^ w) (λ j. bit_shifted s w j ∙ (not_in (λ (m : w + j ∈ s). too-low j (h (w + j) m))).is_zero))
+    below (no_bits (s / 2 ^ w) (λ j. bit_shifted s w j ∙ (not_in (λ (m : w + j ∈ s). too_low j (h (w + j) m))).is_zero))
   where
-    too-low : (j : ℕ) → w + j < w → ⊥
-    too-low j l = omega arith
+    too_low : (j : ℕ) → w + j < w → ⊥
+    too_low j l = omega arith
 
     below : s / 2 ^ w ≡ 0 → s < 2 ^ w
     below e =

@@ -144,13 +144,13 @@ members_first {s} {k} (suc w) h i n =
     here e =
         ap₂ (λ (x : List ℕ) (b : Bool). x ++ kept b w) (none_below w (λ j l. n j (omega arith)))
         (has_yes (subst (λ (x : ℕ). x ∈ s) e i))
-        ∙ ap₂ (λ (x : ℕ) (l : List ℕ). x ∷ l) (sym e) (sym rest-empty)
+        ∙ ap₂ (λ (x : ℕ) (l : List ℕ). x ∷ l) (sym e) (sym rest_empty)
       where
         gone : (j : ℕ) → j < w → j ∉ remove s k
         gone j l = not_in (λ m. in_out (∖_left s (single k) m) (n j (omega arith)))
 
-        rest-empty : members w (remove s k) ++ kept (has (remove s k) w) w ≡ []
-        rest-empty =
+        rest_empty : members w (remove s k) ++ kept (has (remove s k) w) w ≡ []
+        rest_empty =
             ap₂ (λ (x : List ℕ) (b : Bool). x ++ kept b w) (none_below w gone)
             (has_no (subst (λ (x : ℕ). x ∉ remove s k) e (remove_out s k)))
 

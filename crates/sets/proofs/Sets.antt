@@ -87,10 +87,10 @@ unfolding ◌∪◌
 -- ---- difference
 
 differ_min : (x y : ℕ) → x < 2 → y < 2 → differ x (min x y) ≡ x - y
-differ_min zero y hx hy = omega (arith, differ-zero (min 0 y))
+differ_min zero y hx hy = omega (arith, differ_zero (min 0 y))
   where
-    differ-zero : (z : ℕ) → differ zero z ≡ z
-    differ-zero z = refl
+    differ_zero : (z : ℕ) → differ zero z ≡ z
+    differ_zero z = refl
 differ_min (suc zero) zero hx hy = refl
 differ_min (suc zero) (suc zero) hx hy = refl
 differ_min (suc zero) (suc (suc y)) hx hy = absurd (omega arith)

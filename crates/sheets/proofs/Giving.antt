@@ -99,7 +99,7 @@ module _ (serial rows : ℕ) (kinds cells : List ℕ) (number : ℕ) (bytes : Li
 
   case_of : Case
   case_of = ⊎_elim (λ (h : length bytes < 3880). unprinted (inl h) (gives_18 (few_bytes h)))
-      (λ (h : 3880 ≤ length bytes). by-fit (fits rows kinds cells) refl h) (lt_or_le (length bytes) 3880)
+      (λ (h : 3880 ≤ length bytes). by_fit (fits rows kinds cells) refl h) (lt_or_le (length bytes) 3880)
     where
       by_number : 3880 ≤ length bytes → fits rows kinds cells ≡ true → Case
       by_number h y = ⊎_elim (λ (z : number < 1). absent h (fits_fit rows kinds cells y) (inl (omega arith))
@@ -110,9 +110,9 @@ module _ (serial rows : ℕ) (kinds cells : List ℕ) (number : ℕ) (bytes : Li
           (gives_0 (printable h y) (some_sheet (λ e. omega (arith, e, s)) l)))
           (lt_or_le (sheet_count rows) number)) (lt_or_le number 1)
 
-      by-fit : (t : Bool) → fits rows kinds cells ≡ t → 3880 ≤ length bytes → Case
-      by-fit true y h = by_number h y
-      by-fit false n h = unprinted (inr (unfit false n refl)) (gives_18 (not_fit n))
+      by_fit : (t : Bool) → fits rows kinds cells ≡ t → 3880 ≤ length bytes → Case
+      by_fit true y h = by_number h y
+      by_fit false n h = unprinted (inr (unfit false n refl)) (gives_18 (not_fit n))
 
   pub sheet_given : SheetGiven serial rows kinds cells number bytes
   sheet_given = by case_of
@@ -172,34 +172,34 @@ module _ (serial rows : ℕ) (kinds cells : List ℕ) (number : ℕ) (bytes : Li
   few_given h = back (gives_18 (few_bytes h))
 
   module _ {t : Bool} (f : t ≡ fits rows kinds cells) where
-    pub unfit-given : t ≡ false → (18 ≡ gives) × (bytes ≡ leaves)
-    unfit-given n = back (gives_18 (not_fit (sym f ∙ n)))
+    pub unfit_given : t ≡ false → (18 ≡ gives) × (bytes ≡ leaves)
+    unfit_given n = back (gives_18 (not_fit (sym f ∙ n)))
 
     module _ (y : t ≡ true) (h : 3880 ≤ length bytes) where
-      pub given-fit : Fit
-      given-fit = fits_fit rows kinds cells (sym f ∙ y)
+      pub given_fit : Fit
+      given_fit = fits_fit rows kinds cells (sym f ∙ y)
 
-      pub zero-given : number ≡ 0 → (19 ≡ gives) × (bytes ≡ leaves)
-      zero-given e = back (gives_19 (printable h (sym f ∙ y)) (zero_sheet e))
+      pub zero_given : number ≡ 0 → (19 ≡ gives) × (bytes ≡ leaves)
+      zero_given e = back (gives_19 (printable h (sym f ∙ y)) (zero_sheet e))
 
       module _ (s : number ≡ 0 → ⊥) {m : ℕ} (q : m ≡ sheet_count rows) where
-        pub past-given : m < number → (19 ≡ gives) × (bytes ≡ leaves)
-        past-given l = back (gives_19 (printable h (sym f ∙ y)) (past_sheet (subst (λ (k : ℕ). k < number) q l)))
+        pub past_given : m < number → (19 ≡ gives) × (bytes ≡ leaves)
+        past_given l = back (gives_19 (printable h (sym f ∙ y)) (past_sheet (subst (λ (k : ℕ). k < number) q l)))
 
         module _ (l : number ≤ m) where
-          pub number-some : 1 ≤ number
-          number-some =
+          pub number_some : 1 ≤ number
+          number_some =
               ⊎_elim (λ (z : number < 1). absurd (s (omega arith))) (λ (k : 1 ≤ number). k) (lt_or_le number 1)
 
-          pub number-last : number ≤ sheet_count rows
-          number-last = subst (λ (k : ℕ). number ≤ k) q l
+          pub number_last : number ≤ sheet_count rows
+          number_last = subst (λ (k : ℕ). number ≤ k) q l
 
-          pub whole-given : serial < 2 ^ 32 → {out : List ℕ} → out ≡ written 0 text bytes
+          pub whole_given : serial < 2 ^ 32 → {out : List ℕ} → out ≡ written 0 text bytes
               → (0 ≡ gives) × (out ≡ leaves)
           unfolding written
-          whole-given k w =
-              let (a, b) = gives_0 (printable h (sym f ∙ y)) (some_sheet s number-last) in
+          whole_given k w =
+              let (a, b) = gives_0 (printable h (sym f ∙ y)) (some_sheet s number_last) in
               (sym a, w ∙ ap (λ (n : ℕ). text ++ drop n bytes) (zero-add (length text) ∙ size) ∙ sym b)
             where
               size : length text ≡ 3880
-              size = (sheet_shaped rows kinds cells number given-fit number-some number-last serial k).bytes
+              size = (sheet_shaped rows kinds cells number given_fit number_some number_last serial k).bytes

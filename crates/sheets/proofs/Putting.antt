@@ -12,8 +12,8 @@ use Rattle.printout.specs.Decimal.{decimal, cell_text}
 use Rattle.printout.specs.Lines.{cell_texts}
 use Rattle.printout.specs.Printing.{written}
 use Rattle.printout.proofs.Decimal.{cell_short}
-use Rattle.printout.proofs.Writing.{Writing, writing_start, writing-room, writing_next, writing_end}
-use Rattle.printout.proofs.Texts.{first_room, second-room, both-written}
+use Rattle.printout.proofs.Writing.{Writing, writing_start, writing_room, writing_next, writing_end}
+use Rattle.printout.proofs.Texts.{first_room, second_room, both_written}
 use Rattle.printout.proofs.Rows.{rows_left}
 use Rattle.sheets.specs.Sheets.{blanks, field_of, fields_of, rest_of, line_of, head_line, row_line, foot_line}
 use Rattle.sheets.specs.Sheets.{row_lines, blank_lines, joined}
@@ -26,7 +26,7 @@ use Rattle.sheets.proofs.Fields.{fields_front, fields_none, line_none, line_one,
 module _ (from n : ℕ) (e : List ℕ) (left : ℕ) {at : ℕ} {bytes : List ℕ}
     (v : Writing from (blanks n) e at (blanks left) bytes) where
   pub blank_room : 0 < left → at < length bytes
-  blank_room h = omega (arith, writing-room from (blanks n) e v, blanks_length left)
+  blank_room h = omega (arith, writing_room from (blanks n) e v, blanks_length left)
 
   pub blank_written : 0 < left → {to : ℕ} {out : List ℕ} → to ≡ at + 1 → out ≡ written at (32 ∷ []) bytes
       → Writing from (blanks n) e to (blanks (left - 1)) out
@@ -49,17 +49,17 @@ module _ (text e : List ℕ) (at : ℕ) (room : at + length (field_of text) ≤ 
       end_is : end ≡ at + length (blanks (12 - length text))
       end_is = q ∙ ap (λ (m : ℕ). at + length (blanks (12 - m))) p
 
-      mid-is : mid ≡ written at (blanks (12 - length text)) e
-      mid-is = w ∙ ap (λ (m : ℕ). written at (blanks (12 - m)) e) p
+      mid_is : mid ≡ written at (blanks (12 - length text)) e
+      mid_is = w ∙ ap (λ (m : ℕ). written at (blanks (12 - m)) e) p
 
       pub text_room : end + length text ≤ length mid
       unfolding field_of
-      text_room = second-room at (blanks (12 - length text)) text e room end_is mid-is
+      text_room = second_room at (blanks (12 - length text)) text e room end_is mid_is
 
-      pub field-written : {to : ℕ} {out : List ℕ} → to ≡ end + length text → out ≡ written end text mid
+      pub field_written : {to : ℕ} {out : List ℕ} → to ≡ end + length text → out ≡ written end text mid
           → (to ≡ at + length (field_of text)) × (out ≡ written at (field_of text) e)
       unfolding field_of
-      field-written r u = both-written at (blanks (12 - length text)) text e room end_is mid-is r u
+      field_written r u = both_written at (blanks (12 - length text)) text e room end_is mid_is r u
 
 -- the field of a cell has its 12 columns
 pub cell_field : (kind cell : ℕ) → cell < 2 ^ 32 → length (field_of (cell_text kind cell)) ≡ 12
@@ -77,14 +77,14 @@ module _ (kinds : List ℕ) (row : Row) (from : ℕ) (e : List ℕ) (i : ℕ) {a
     field_room =
         omega (
           arith,
-          writing-room from (fields_left kinds row 0) e v,
+          writing_room from (fields_left kinds row 0) e v,
           ap length (fields_front kinds row i h wide),
           length-append cell_field_fact (fields_left kinds row (i + 1)),
         )
 
-    pub fields-next : {to : ℕ} {out : List ℕ} → to ≡ at + length cell_field_fact → out ≡ written at cell_field_fact bytes
+    pub fields_next : {to : ℕ} {out : List ℕ} → to ≡ at + length cell_field_fact → out ≡ written at cell_field_fact bytes
         → Writing from (fields_left kinds row 0) e to (fields_left kinds row (i + 1)) out
-    fields-next p w =
+    fields_next p w =
         writing_next from (fields_left kinds row 0) e v cell_field_fact (fields_left kinds row (i + 1))
         (fields_front kinds row i h wide) p w
 
@@ -103,14 +103,14 @@ module _ (used at : ℕ) (e : List ℕ) (room : at + length (rest_of used) ≤ l
 
   module _ {end : ℕ} {mid : List ℕ} (p : end ≡ at + length (blanks (96 - used)))
       (w : mid ≡ written at (blanks (96 - used)) e) where
-    pub feed-room : end < length mid
+    pub feed_room : end < length mid
     unfolding rest_of
-    feed-room = omega (arith, second-room at (blanks (96 - used)) (10 ∷ []) e room p w)
+    feed_room = omega (arith, second_room at (blanks (96 - used)) (10 ∷ []) e room p w)
 
-    pub rest-written : {to : ℕ} {out : List ℕ} → to ≡ end + 1 → out ≡ written end (10 ∷ []) mid
+    pub rest_written : {to : ℕ} {out : List ℕ} → to ≡ end + 1 → out ≡ written end (10 ∷ []) mid
         → (to ≡ at + length (rest_of used)) × (out ≡ written at (rest_of used) e)
     unfolding rest_of
-    rest-written q u = both-written at (blanks (96 - used)) (10 ∷ []) e room p w q u
+    rest_written q u = both_written at (blanks (96 - used)) (10 ∷ []) e room p w q u
 
 -- ---- the head line
 
@@ -137,8 +137,8 @@ module _ (serial rows : ℕ) (few : rows ≤ 999_999_999_999) {x : ℕ} (same : 
 
   module _ {a : ℕ} {first : List ℕ} (p : a ≡ 0 + length (field_of (decimal x)))
       (w : first ≡ written 0 (field_of (decimal x)) e) where
-    serial-written : Writing 0 (head_line serial rows) e a (field_of (decimal rows) ++ rest_of 24) first
-    serial-written =
+    serial_written : Writing 0 (head_line serial rows) e a (field_of (decimal rows) ++ rest_of 24) first
+    serial_written =
         writing_next 0 (head_line serial rows) e head_start (field_of (decimal x)) (field_of (decimal rows) ++ rest_of 24)
         head_parts p w
 
@@ -146,24 +146,24 @@ module _ (serial rows : ℕ) (few : rows ≤ 999_999_999_999) {x : ℕ} (same : 
     count_room =
         omega (
           arith,
-          writing-room 0 (head_line serial rows) e serial-written,
+          writing_room 0 (head_line serial rows) e serial_written,
           length-append (field_of (decimal rows)) (rest_of 24),
         )
 
     module _ {b : ℕ} {second : List ℕ} (q : b ≡ a + length (field_of (decimal rows)))
         (u : second ≡ written a (field_of (decimal rows)) first) where
-      count-written : Writing 0 (head_line serial rows) e b (rest_of 24) second
-      count-written =
-          writing_next 0 (head_line serial rows) e serial-written (field_of (decimal rows)) (rest_of 24) refl q u
+      count_written : Writing 0 (head_line serial rows) e b (rest_of 24) second
+      count_written =
+          writing_next 0 (head_line serial rows) e serial_written (field_of (decimal rows)) (rest_of 24) refl q u
 
-      pub head-rest-room : b + length (rest_of 24) ≤ length second
-      head-rest-room = writing-room 0 (head_line serial rows) e count-written
+      pub head_rest_room : b + length (rest_of 24) ≤ length second
+      head_rest_room = writing_room 0 (head_line serial rows) e count_written
 
-      pub head-written : {to : ℕ} {out : List ℕ} → to ≡ b + length (rest_of 24) → out ≡ written b (rest_of 24) second
+      pub head_written : {to : ℕ} {out : List ℕ} → to ≡ b + length (rest_of 24) → out ≡ written b (rest_of 24) second
           → (to ≡ 0 + length (head_line serial rows)) × (out ≡ written 0 (head_line serial rows) e)
-      head-written r t =
+      head_written r t =
           writing_end 0 (head_line serial rows) e
-          (writing_next 0 (head_line serial rows) e count-written (rest_of 24) [] (sym (append-nil (rest_of 24))) r t)
+          (writing_next 0 (head_line serial rows) e count_written (rest_of 24) [] (sym (append-nil (rest_of 24))) r t)
 
 -- ---- a line of a part and its rest
 
@@ -176,13 +176,13 @@ module _ (line part rest : List ℕ) (parts : line ≡ part ++ rest) (at : ℕ) 
   part_room = first_room at part rest e room_is
 
   module _ {end : ℕ} {mid : List ℕ} (p : end ≡ at + length part) (w : mid ≡ written at part e) where
-    pub rest-behind : end + length rest ≤ length mid
-    rest-behind = second-room at part rest e room_is p w
+    pub rest_behind : end + length rest ≤ length mid
+    rest_behind = second_room at part rest e room_is p w
 
-    pub line-written : {to : ℕ} {out : List ℕ} → to ≡ end + length rest → out ≡ written end rest mid
+    pub line_written : {to : ℕ} {out : List ℕ} → to ≡ end + length rest → out ≡ written end rest mid
         → (to ≡ at + length line) × (out ≡ written at line e)
-    line-written q u =
-        let (f, g) = both-written at part rest e room_is p w q u in (
+    line_written q u =
+        let (f, g) = both_written at part rest e room_is p w q u in (
           f ∙ ap (λ (l : List ℕ). at + length l) (sym parts),
           g ∙ ap (λ (l : List ℕ). written at l e) (sym parts),
         )
@@ -208,17 +208,17 @@ module _ (kinds : List ℕ) (row : Row) (at : ℕ) (e : List ℕ) (room : at + l
   -- the fields have 12 columns each
   module _ {end : ℕ} {mid : List ℕ} (p : end ≡ at + length row_fields) (w : mid ≡ written at row_fields e)
       (q : end ≡ at + 12 * length kinds) where
-    parts-12 : row_line kinds row ≡ row_fields ++ rest_of (12 * length kinds)
-    parts-12 = row_parts (12 * length kinds) (omega (arith, p, q))
+    parts_12 : row_line kinds row ≡ row_fields ++ rest_of (12 * length kinds)
+    parts_12 = row_parts (12 * length kinds) (omega (arith, p, q))
 
-    pub row-rest-room : end + length (rest_of (12 * length kinds)) ≤ length mid
-    row-rest-room = rest-behind (row_line kinds row) row_fields (rest_of (12 * length kinds)) parts-12 at e room p w
+    pub row_rest_room : end + length (rest_of (12 * length kinds)) ≤ length mid
+    row_rest_room = rest_behind (row_line kinds row) row_fields (rest_of (12 * length kinds)) parts_12 at e room p w
 
-    pub row-line-written : {to : ℕ} {out : List ℕ} → to ≡ end + length (rest_of (12 * length kinds))
+    pub row_line_written : {to : ℕ} {out : List ℕ} → to ≡ end + length (rest_of (12 * length kinds))
         → out ≡ written end (rest_of (12 * length kinds)) mid
         → (to ≡ at + length (row_line kinds row)) × (out ≡ written at (row_line kinds row) e)
-    row-line-written r u =
-        line-written (row_line kinds row) row_fields (rest_of (12 * length kinds)) parts-12 at e room p w r u
+    row_line_written r u =
+        line_written (row_line kinds row) row_fields (rest_of (12 * length kinds)) parts_12 at e room p w r u
 
 -- ---- lines of rows
 
@@ -232,10 +232,10 @@ module _ (kinds cells : List ℕ) (from left : ℕ) where
   next_row = take (from + length kinds - from) (drop from cells)
 
   module _ (h : 0 < left) where
-    lines-front : lines_left kinds cells from left
+    lines_front : lines_left kinds cells from left
         ≡ row_line kinds next_row ++ lines_left kinds cells (from + length kinds) (left - 1)
     unfolding row_lines joined
-    lines-front = rw (rows_left (length kinds) from cells left h)
+    lines_front = rw (rows_left (length kinds) from cells left h)
 
     module _ (start : ℕ) (text e : List ℕ) {at : ℕ} {bytes : List ℕ}
         (v : Writing start text e at (lines_left kinds cells from left) bytes) where
@@ -243,8 +243,8 @@ module _ (kinds cells : List ℕ) (from left : ℕ) where
       row_room =
           omega (
             arith,
-            writing-room start text e v,
-            ap length lines-front,
+            writing_room start text e v,
+            ap length lines_front,
             length-append (row_line kinds next_row) (lines_left kinds cells (from + length kinds) (left - 1)),
           )
 
@@ -253,7 +253,7 @@ module _ (kinds cells : List ℕ) (from left : ℕ) where
           → Writing start text e to (lines_left kinds cells (from + length kinds) (left - 1)) out
       row_written p w =
           writing_next start text e v (row_line kinds next_row) (lines_left kinds cells (from + length kinds) (left - 1))
-          lines-front p w
+          lines_front p w
 
   no_lines : left ≤ 0 → lines_left kinds cells from left ≡ []
   unfolding row_lines rows_in joined
@@ -292,7 +292,7 @@ module _ (from n : ℕ) (e : List ℕ) (left : ℕ) {at : ℕ} {bytes : List ℕ
   blank_line_room h =
       omega (
         arith,
-        writing-room from (blank_text n) e v,
+        writing_room from (blank_text n) e v,
         ap length (blank_front left h),
         length-append (rest_of 0) (blank_text (left - 1)),
       )

@@ -175,29 +175,29 @@ module _ (rows : ℕ) (kinds cells : List ℕ) (number : ℕ) (fit : FitToPrint 
 
   -- the rows of the sheet in their cells
   module _ (n : ℕ) (cut : n ≡ min 38 (rows - first)) where
-    shown-inside : first + n ≤ rows
-    shown-inside = omega (arith, cut, first_inside rows number some last)
+    shown_inside : first + n ≤ rows
+    shown_inside = omega (arith, cut, first_inside rows number some last)
 
-    cells-inside : first * w + n * w ≤ rows * w
-    cells-inside = subst (λ (m : ℕ). m ≤ rows * w) (add-mul first n w) (mul-le-mul_right w shown-inside)
+    cells_inside : first * w + n * w ≤ rows * w
+    cells_inside = subst (λ (m : ℕ). m ≤ rows * w) (add-mul first n w) (mul-le-mul_right w shown_inside)
 
-    pub part-inside : first * w + n * w ≤ length cells
-    part-inside = omega (arith, cells-inside, fit.enough_cells)
+    pub part_inside : first * w + n * w ≤ length cells
+    part_inside = omega (arith, cells_inside, fit.enough_cells)
 
-    pub cells-enough : n * w ≤ length (drop (first * w) cells)
-    cells-enough = omega (arith, length-drop (first * w) cells, cells-inside, fit.enough_cells)
+    pub cells_enough : n * w ≤ length (drop (first * w) cells)
+    cells_enough = omega (arith, length-drop (first * w) cells, cells_inside, fit.enough_cells)
 
-    pub cells-small : SmallCells (n * w) (drop (first * w) cells)
-    cells-small i h =
+    pub cells_small : SmallCells (n * w) (drop (first * w) cells)
+    cells_small i h =
         subst (λ (c : ℕ). c < 2 ^ 32) (sym (get_or-drop (first * w) cells i 0))
-        (fit_small rows kinds cells fit (first * w + i) (omega (arith, cells-inside)))
+        (fit_small rows kinds cells fit (first * w + i) (omega (arith, cells_inside)))
 
     pub shown_rows : sheet_rows number (answer_rows rows kinds cells) ≡ rows_in w n (drop (first * w) cells)
     shown_rows =
         sheet_rows_law w number rows cells ∙ ap (λ (m : ℕ). rows_in w m (drop (first * w) cells)) (sym cut)
 
-    shown-shaped : Shaped (row_lines kinds (rows_in w n (drop (first * w) cells)))
-    shown-shaped = rows_shaped kinds fit.few_items n (drop (first * w) cells) cells-enough cells-small
+    shown_shaped : Shaped (row_lines kinds (rows_in w n (drop (first * w) cells)))
+    shown_shaped = rows_shaped kinds fit.few_items n (drop (first * w) cells) cells_enough cells_small
 
   pub number_few : number ≤ 999_999_999_999
   number_few = omega (arith, number_inside rows number some last, fit.few_rows)
@@ -224,33 +224,33 @@ module _ (rows : ℕ) (kinds cells : List ℕ) (number : ℕ) (fit : FitToPrint 
       shown = rows_in w n (drop (first * w) cells)
 
   module _ (serial : ℕ) (small : serial < 2 ^ 32) where
-    showing-shaped : (r : List Row) → Shaped (row_lines kinds r) → Shaped (lines_showing serial rows kinds r number)
+    showing_shaped : (r : List Row) → Shaped (row_lines kinds r) → Shaped (lines_showing serial rows kinds r number)
     unfolding lines_showing
-    showing-shaped r v =
+    showing_shaped r v =
         more (line_96 (more (short_number serial (omega arith)) (more (short_number rows fit.few_rows) none)) (omega
         arith))
         (shaped_append v (shaped_append (blank_shaped (38 - length r))
         (more (line_96 (more (short_number number number_few) none) (omega arith)) none)))
 
-    pub sheet-lines-shaped : Shaped (sheet_lines serial rows kinds cells number)
+    pub sheet_lines_shaped : Shaped (sheet_lines serial rows kinds cells number)
     unfolding sheet_lines
-    sheet-lines-shaped =
-        showing-shaped (sheet_rows number (answer_rows rows kinds cells))
+    sheet_lines_shaped =
+        showing_shaped (sheet_rows number (answer_rows rows kinds cells))
         (subst (λ (r : List Row). Shaped (row_lines kinds r)) (sym (shown_rows (min 38 (rows - first)) refl))
-        (shown-shaped (min 38 (rows - first)) refl))
+        (shown_shaped (min 38 (rows - first)) refl))
 
-    pub sheet-lines-count : length (sheet_lines serial rows kinds cells number) ≡ 40
+    pub sheet_lines_count : length (sheet_lines serial rows kinds cells number) ≡ 40
     unfolding sheet_lines
-    sheet-lines-count =
+    sheet_lines_count =
         showing_count serial rows kinds (sheet_rows number (answer_rows rows kinds cells)) number
         (rows_few number (answer_rows rows kinds cells))
 
     pub sheet_shaped : SheetShaped serial rows kinds cells number
     unfolding sheet_text
     sheet_shaped = record {
-      lines = sheet-lines-count;
-      each = shaped_each sheet-lines-shaped;
-      bytes = omega (arith, shaped_length sheet-lines-shaped, sheet-lines-count);
+      lines = sheet_lines_count;
+      each = shaped_each sheet_lines_shaped;
+      bytes = omega (arith, shaped_length sheet_lines_shaped, sheet_lines_count);
     }
 
 -- ---- what stands in each line

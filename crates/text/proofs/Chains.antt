@@ -106,7 +106,7 @@ module _ (s : List ℕ) (w : Word) (join : Condition → Condition → Condition
   -- the laws of a chain
   pub record Chain : Type 0 where
     pub whole_is : (n at : ℕ) → whole (suc n) at ≡ (part n at and_then λ c next. more n c next)
-    pub more-is : (n : ℕ) (c : Deep) (at : ℕ) → more (suc n) c at
+    pub more_is : (n : ℕ) (c : Deep) (at : ℕ) → more (suc n) c at
         ≡ if_word (behind w (next_at s at)) (λ next. part n next and_then λ e end. more n (joined c e) end) (λ u. parsed c at)
     pub words : (c e : Condition) → program (join c e) ≡ program c ++ (program e ++ code ∷ [])
     pub small : off ≤ 3
@@ -131,9 +131,9 @@ module _ (s : List ℕ) (w : Word) (join : Condition → Condition → Condition
     first_goes after r m (parsed c next) h e l =
         (m, (omega (arith, h.forward, h.inside), laws.whole_is m at ∙ then_parsed _ e))
 
-    pub round-start : (after : List ℕ) (r : Parse)
+    pub round_start : (after : List ℕ) (r : Parse)
         → Gave (λ n. part n at) (4 * (length s - at) + off) s at to before after r → Round at to before after r
-    round-start after r g = record { given = g.given; goes = go; shown = g.shown }
+    round_start after r g = record { given = g.given; goes = go; shown = g.shown }
       where
         go : (n : ℕ) → 4 * (length s - at) + suc off ≤ n → Continues (whole n at) g.given
         go zero l = absurd (omega arith)
@@ -144,10 +144,10 @@ module _ (s : List ℕ) (w : Word) (join : Condition → Condition → Condition
 
     -- ---- the end
 
-    pub round-fails : (after : List ℕ) (r : Parse) → Round at to before after r → not r.ok ≡ true
+    pub round_fails : (after : List ℕ) (r : Parse) → Round at to before after r → not r.ok ≡ true
         → Gave (λ n. whole n at) (4 * (length s - at) + suc off) s at to before after r
     unfolding Continues
-    round-fails after r g n =
+    round_fails after r g n =
         let none' = shows_none s at to before after r g.given g.shown (not-true r.ok n) in
         record {
           given = failed;
@@ -172,15 +172,15 @@ module _ (s : List ℕ) (w : Word) (join : Condition → Condition → Condition
         go (parsed c next) k h = unfold Continues Shows in (record { c = c; next = next; goes = k; shown = h })
 
     module _ (after : List ℕ) (r : Parse) (g : Round at to before after r) (ok : not r.ok ≡ false) where
-      pub round-inside : r.next ≤ length s
-      round-inside = let h = here after r g ok in omega (arith, shows_next h.shown, h.shown.inside)
+      pub round_inside : r.next ≤ length s
+      round_inside = let h = here after r g ok in omega (arith, shows_next h.shown, h.shown.inside)
 
-      pub round-length : length after ≡ length before
-      round-length = shows_length (here after r g ok).shown room
+      pub round_length : length after ≡ length before
+      round_length = shows_length (here after r g ok).shown room
 
       module _ (next : ℕ) (e : next ≡ after_token (word_number w) (token_at s r.next)) where
-        pub round-ends : next ≡ 0 → Gave (λ n. whole n at) (4 * (length s - at) + suc off) s at to before after r
-        round-ends z =
+        pub round_ends : next ≡ 0 → Gave (λ n. whole n at) (4 * (length s - at) + suc off) s at to before after r
+        round_ends z =
             let h = here after r g ok in
             let stops = after_none w s r.next next e z in
             record {
@@ -193,21 +193,21 @@ module _ (s : List ℕ) (w : Word) (join : Condition → Condition → Condition
             last : (c : Deep) (m k : ℕ) → 4 * (length s - m) + 1 ≤ k → behind w (next_at s m) ≡ none
                 → more k c m ≡ parsed c m
             last c m zero l f = absurd (omega arith)
-            last c m (suc k) l f = laws.more-is k c m ∙ if_none _ _ f
+            last c m (suc k) l f = laws.more_is k c m ∙ if_none _ _ f
 
         module _ (n : next ≡ 0 → ⊥) where
-          word-there : next_at s r.next ≡ found (word w) next
-          word-there = after_some w s r.next next e n
+          word_there : next_at s r.next ≡ found (word w) next
+          word_there = after_some w s r.next next e n
 
-          word-within : Within s r.next next
-          word-within = found_within s r.next word-there
+          word_within : Within s r.next next
+          word_within = found_within s r.next word_there
 
-          pub round-next-inside : next ≤ length s
-          round-next-inside = word-within.inside
+          pub round_next_inside : next ≤ length s
+          round_next_inside = word_within.inside
 
           -- a byte or more is the word's
-          round-slack : r.end + 2 * (length s - next) + 2 ≤ length after
-          round-slack =
+          round_slack : r.end + 2 * (length s - next) + 2 ≤ length after
+          round_slack =
               let h = here after r g ok in
               omega (
                 arith,
@@ -215,18 +215,18 @@ module _ (s : List ℕ) (w : Word) (join : Condition → Condition → Condition
                 shows_next h.shown,
                 h.shown.words,
                 h.shown.forward,
-                word-within.after,
-                word-within.inside,
-                round-length,
+                word_within.after,
+                word_within.inside,
+                round_length,
               )
 
           pub round_room : r.end + 2 * (length s - next) ≤ length after
-          round_room = omega (arith, round-slack)
+          round_room = omega (arith, round_slack)
 
-          pub round-falls : 4 * (length s - next) + off < 4 * (length s - at) + suc off
-          round-falls =
+          pub round_falls : 4 * (length s - next) + off < 4 * (length s - at) + suc off
+          round_falls =
               let h = here after r g ok in
-              omega (arith, shows_next h.shown, h.shown.forward, word-within.after, word-within.inside)
+              omega (arith, shows_next h.shown, h.shown.forward, word_within.after, word_within.inside)
 
           -- ---- one part more
 
@@ -246,7 +246,7 @@ module _ (s : List ℕ) (w : Word) (join : Condition → Condition → Condition
                   h.words,
                   h.inside,
                   h.forward,
-                  round-slack,
+                  round_slack,
                   part_length,
                 )
 
@@ -260,7 +260,7 @@ module _ (s : List ℕ) (w : Word) (join : Condition → Condition → Condition
                 k = h.goes n l
 
                 there : next_at s h.next ≡ found (word w) next
-                there = subst (λ (m : ℕ). next_at s m ≡ found (word w) next) (shows_next h.shown) word-there
+                there = subst (λ (m : ℕ). next_at s m ≡ found (word w) next) (shows_next h.shown) word_there
 
                 ahead : Within s h.next next
                 ahead = found_within s h.next there
@@ -273,7 +273,7 @@ module _ (s : List ℕ) (w : Word) (join : Condition → Condition → Condition
                   k,
                   (
                     omega (arith, ahead.after, ahead.inside),
-                    f ∙ laws.more-is k h.c h.next
+                    f ∙ laws.more_is k h.c h.next
                         ∙ if_some _ _ (takes_word s h.next w there)
                         ∙ ap (λ (x : Parsed Deep). x and_then λ e end. more k (joined h.c e) end)
                         (p.steady k (omega (arith, laws.small, ahead.after, ahead.inside))),
@@ -282,25 +282,25 @@ module _ (s : List ℕ) (w : Word) (join : Condition → Condition → Condition
 
             module _ (after2 : List ℕ) (r' : Parse) (er : r' ≡ with_word q r.depth)
                 (ea : after2 ≡ word_written q code after1) where
-              next-fails : (h : Here after r) → p.given ≡ failed → Shows s next r.end after after1 q failed
+              next_fails : (h : Here after r) → p.given ≡ failed → Shows s next r.end after after1 q failed
                   → Round at to before after2 r'
-              next-fails h f k = record {
+              next_fails h f k = record {
                 given = failed;
                 goes = λ n l. unfold Continues in (let o = on h n l in o.1.1 ∙ then_failed _ f);
                 shown = unfold Shows in (
                   er ∙ none_value q r.depth k.0,
-                  ap length (ea ∙ none_words q code after1 k.0) ∙ part_length ∙ round-length,
+                  ap length (ea ∙ none_words q code after1 k.0) ∙ part_length ∙ round_length,
                 );
               }
 
-              next-value : (h : Here after r) (g : Deep) (end : ℕ) → ShowsParsed s next r.end after after1 q g end
+              next_value : (h : Here after r) (g : Deep) (end : ℕ) → ShowsParsed s next r.end after after1 q g end
                   → r' ≡ record {
                     ok = true;
                     next = end;
                     depth = max h.c.depth g.depth;
                     end = to + length (program (join h.c.condition g.condition));
                   }
-              next-value h g end k =
+              next_value h g end k =
                   er ∙ word_value r.depth code k
                   ∙ ap₂ {C = Parse} (λ (d e : ℕ). record { ok = true; next = end; depth = d; end = e })
                   (ap (λ (d : ℕ). max d g.depth) (shows_depth h.shown)) long
@@ -315,9 +315,9 @@ module _ (s : List ℕ) (w : Word) (join : Condition → Condition → Condition
                     length-append (program g.condition) (code ∷ []),
                   )
 
-              next-words : (h : Here after r) (g : Deep) (end : ℕ) → ShowsParsed s next r.end after after1 q g end
+              next_words : (h : Here after r) (g : Deep) (end : ℕ) → ShowsParsed s next r.end after after1 q g end
                   → after2 ≡ written to (program (join h.c.condition g.condition)) before
-              next-words h g end k =
+              next_words h g end k =
                   ea ∙ word_words r.depth code k (omega (arith, k.words, k.inside, k.forward, round_room))
                   ∙ ap₂ (λ (i : ℕ) (x : List ℕ). written i (program g.condition ++ code ∷ []) x)
                   (shows_end h.shown) h.shown.stands
@@ -325,17 +325,17 @@ module _ (s : List ℕ) (w : Word) (join : Condition → Condition → Condition
                   (omega (arith, h.shown.words, h.shown.inside, h.shown.forward))
                   ∙ ap (λ (x : List ℕ). written to x before) (sym (laws.words h.c.condition g.condition))
 
-              next-parsed : (h : Here after r) (g : Deep) (end : ℕ) → p.given ≡ parsed g end
+              next_parsed : (h : Here after r) (g : Deep) (end : ℕ) → p.given ≡ parsed g end
                   → ShowsParsed s next r.end after after1 q g end → Round at to before after2 r'
-              next-parsed h g end f k = record {
+              next_parsed h g end f k = record {
                 given = parsed (joined h.c g) end;
                 goes = λ n l. unfold Continues in (
                     let o = on h n l in
                     (o.0, (omega (arith, o.1.0, k.forward, k.inside), o.1.1 ∙ then_parsed _ f)));
                 shown = unfold Shows in (record {
-                  same = next-value h g end k;
-                  stands = next-words h g end k;
-                  forward = omega (arith, h.shown.forward, shows_next h.shown, word-within.after, k.forward);
+                  same = next_value h g end k;
+                  stands = next_words h g end k;
+                  forward = omega (arith, h.shown.forward, shows_next h.shown, word_within.after, k.forward);
                   inside = k.inside;
                   words = omega (
                     arith,
@@ -346,7 +346,7 @@ module _ (s : List ℕ) (w : Word) (join : Condition → Condition → Condition
                     k.words,
                     h.shown.forward,
                     shows_next h.shown,
-                    word-within.after,
+                    word_within.after,
                     k.forward,
                   );
                   depth = omega (
@@ -355,7 +355,7 @@ module _ (s : List ℕ) (w : Word) (join : Condition → Condition → Condition
                     k.depth,
                     h.shown.forward,
                     shows_next h.shown,
-                    word-within.after,
+                    word_within.after,
                     k.forward,
                   );
                 });
@@ -366,11 +366,11 @@ module _ (s : List ℕ) (w : Word) (join : Condition → Condition → Condition
                 where
                   go : (x : Parsed Deep) → p.given ≡ x → Shows s next r.end after after1 q x
                       → Round at to before after2 r'
-                  go failed f k = next-fails (here after r g ok) f k
-                  go (parsed d end) f k = unfold Shows in next-parsed (here after r g ok) d end f k
+                  go failed f k = next_fails (here after r g ok) f k
+                  go (parsed d end) f k = unfold Shows in next_parsed (here after r g ok) d end f k
 
-              pub round-less : left s r' < left s r
-              round-less = go p.given p.shown
+              pub round_less : left s r' < left s r
+              round_less = go p.given p.shown
                 where
                   go : (x : Parsed Deep) → Shows s next r.end after after1 q x → left s r' < left s r
                   go failed k = unfold Shows nothing in omega (
@@ -379,16 +379,16 @@ module _ (s : List ℕ) (w : Word) (join : Condition → Condition → Condition
                     left_some s r (not-false r.ok ok),
                   )
                   go (parsed d end) k = unfold Shows in (
-                      let v = next-value (here after r g ok) d end k in
+                      let v = next_value (here after r g ok) d end k in
                       omega (
                         arith,
                         left_some s r' (ap (λ (x : Parse). x.ok) v),
                         ap (λ (x : Parse). x.next) v,
                         left_some s r (not-false r.ok ok),
-                        word-within.after,
+                        word_within.after,
                         k.forward,
                         k.inside,
                       ))
 
-              pub next-length : length after2 ≡ length before
-              next-length = shows_same s at to before after2 r' round-next.given round-next.shown room
+              pub next_length : length after2 ≡ length before
+              next_length = shows_same s at to before after2 r' round-next.given round-next.shown room

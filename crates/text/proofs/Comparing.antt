@@ -150,14 +150,14 @@ module _ (s : List ℕ) (at : ℕ) (first : Token) (e1 : first ≡ token_at s at
     unfolding token_at
     i1 = the_item (next_at s at) v m mid (sym e1 ∙ f1)
 
-    pub mid-inside : mid ≤ length s
-    mid-inside = (found_within s at i1.is).inside
+    pub mid_inside : mid ≤ length s
+    mid_inside = (found_within s at i1.is).inside
 
     module _ (second : Token) (e2 : second ≡ token_at s mid) where
-      pub second-fails : (r : Compared) → r.ok ≡ false → OneOf (0 ∷ 1 ∷ 2 ∷ 4 ∷ 5 ∷ []) (tag second)
+      pub second_fails : (r : Compared) → r.ok ≡ false → OneOf (0 ∷ 1 ∷ 2 ∷ 4 ∷ 5 ∷ []) (tag second)
           → ComparedShows s at r (comparison_at s at)
       unfolding comparison_at token_at item_of
-      second-fails r h k =
+      second_fails r h k =
           fails s at r h (then_parsed _ (ap item_of i1.is)
           ∙ then_failed _ (no_operator (next_at s mid)
           (subst (λ (t : Token). OneOf (0 ∷ 1 ∷ 2 ∷ 4 ∷ 5 ∷ []) (tag t)) e2 k)))
@@ -167,26 +167,26 @@ module _ (s : List ℕ) (at : ℕ) (first : Token) (e1 : first ≡ token_at s at
         unfolding token_at
         i2 = the_operator (next_at s mid) o late (sym e2 ∙ f2)
 
-        pub late-inside : late ≤ length s
-        late-inside = (found_within s mid i2.is).inside
+        pub late_inside : late ≤ length s
+        late_inside = (found_within s mid i2.is).inside
 
-        before-third : {x : Parsed Operand} → operand_of (next_at s late) ≡ x
+        before_third : {x : Parsed Operand} → operand_of (next_at s late) ≡ x
             → comparison_at s at
             ≡ (x and_then λ y end. parsed
             (record { condition = compared (record { left = i1.it; by = i2.it; right = y }); depth = 0 }) end)
         unfolding comparison_at item_of operator_of
-        before-third g =
+        before_third g =
             then_parsed _ (ap item_of i1.is) ∙ then_parsed _ (ap operator_of i2.is)
             ∙ ap (λ (x : Parsed Operand). x and_then λ y end. parsed
             (record { condition = compared (record { left = i1.it; by = i2.it; right = y }); depth = 0 }) end) g
 
         module _ (third : Token) (e3 : third ≡ token_at s late) where
-          pub third-fails : (r : Compared) → r.ok ≡ false → OneOf (0 ∷ 1 ∷ 2 ∷ 3 ∷ []) (tag third)
+          pub third_fails : (r : Compared) → r.ok ≡ false → OneOf (0 ∷ 1 ∷ 2 ∷ 3 ∷ []) (tag third)
               → ComparedShows s at r (comparison_at s at)
           unfolding token_at ◌andThen◌
-          third-fails r h k =
+          third_fails r h k =
               fails s at r h
-              (before-third (no_operand (next_at s late)
+              (before_third (no_operand (next_at s late)
               (subst (λ (t : Token). OneOf (0 ∷ 1 ∷ 2 ∷ 3 ∷ []) (tag t)) e3 k)))
 
           done : (x : Operand) (v2 m2 next : ℕ) → operand_of (next_at s late) ≡ parsed x next → late < next
@@ -196,7 +196,7 @@ module _ (s : List ℕ) (at : ℕ) (first : Token) (e1 : first ≡ token_at s at
               (comparison_at s at)
           unfolding ◌andThen◌ ComparedShows compared_words program comparison_words
           done x v2 m2 next g h k w =
-              subst (ComparedShows s at _) (sym (before-third g)) (
+              subst (ComparedShows s at _) (sym (before_third g)) (
                 refl,
                 refl,
                 (λ j. 0 ∷ sym i1.letter j ∷ sym i1.name j ∷ sym i2.same j ∷ w j),
@@ -205,23 +205,23 @@ module _ (s : List ℕ) (at : ℕ) (first : Token) (e1 : first ≡ token_at s at
                 k,
               )
 
-          pub third-item : (v2 m2 next : ℕ) → third ≡ ItemAt v2 m2 next
+          pub third_item : (v2 m2 next : ℕ) → third ≡ ItemAt v2 m2 next
               → ComparedShows s at
               (record { ok = true; letter = v; name = m; operator = o; letter2 = v2; name2 = m2; next = next })
               (comparison_at s at)
           unfolding operand_of token_at operand_words
-          third-item v2 m2 next f3 =
+          third_item v2 m2 next f3 =
               let i3 = the_item (next_at s late) v2 m2 next (sym e3 ∙ f3) in
               let w = found_within s late i3.is in
               done (of_item i3.it) v2 m2 next (ap operand_of i3.is) w.after w.inside
               (λ j. sym i3.letter j ∷ sym i3.name j ∷ [])
 
-          pub third-constant : (minus : Bool) (v2 m2 next : ℕ) → third ≡ NumberAt minus m2 next → v2 ≡ sign_word minus
+          pub third_constant : (minus : Bool) (v2 m2 next : ℕ) → third ≡ NumberAt minus m2 next → v2 ≡ sign_word minus
               → ComparedShows s at
               (record { ok = true; letter = v; name = m; operator = o; letter2 = v2; name2 = m2; next = next })
               (comparison_at s at)
           unfolding operand_of token_at operand_words constant_words
-          third-constant minus v2 m2 next f3 sg =
+          third_constant minus v2 m2 next f3 sg =
               let i3 = the_constant (next_at s late) minus m2 next (sym e3 ∙ f3) in
               let w = found_within s late i3.is in
               done (of_constant (number minus i3.digits)) v2 m2 next (ap operand_of i3.is) w.after w.inside

@@ -46,17 +46,17 @@ module _ (b : ℕ) (l : List ℕ) (n : between 65 90 b ≡ false) where
       )
 
   module _ (m : between 97 122 b ≡ false) where
-    candidate-digit : between 48 57 b ≡ true → candidate (b ∷ l) ≡ some (constant_from false (b ∷ l))
+    candidate_digit : between 48 57 b ≡ true → candidate (b ∷ l) ≡ some (constant_from false (b ∷ l))
     unfolding candidate is_capital is_small is_digit
-    candidate-digit y = rw (n, m, y)
+    candidate_digit y = rw (n, m, y)
 
-    candidate-minus : between 48 57 b ≡ false → b ≡ 45 → candidate (b ∷ l) ≡ some (constant_from true l)
+    candidate_minus : between 48 57 b ≡ false → b ≡ 45 → candidate (b ∷ l) ≡ some (constant_from true l)
     unfolding candidate is_capital is_small is_digit
-    candidate-minus w k = rw (n, m, w, eq-eqb b 45 k)
+    candidate_minus w k = rw (n, m, w, eq-eqb b 45 k)
 
-    candidate-fixed : between 48 57 b ≡ false → (b ≡ 45 → ⊥) → candidate (b ∷ l) ≡ first_of fixed (b ∷ l)
+    candidate_fixed : between 48 57 b ≡ false → (b ≡ 45 → ⊥) → candidate (b ∷ l) ≡ first_of fixed (b ∷ l)
     unfolding candidate is_capital is_small is_digit
-    candidate-fixed w k = rw (n, m, w, ne_eqb b 45 k)
+    candidate_fixed w k = rw (n, m, w, ne_eqb b 45 k)
 
 -- ---- behind the spaces
 
@@ -78,32 +78,32 @@ module _ (s : List ℕ) (at start : ℕ) (e : start ≡ at + run (between 32 32)
     here : drop start s ≡ b ∷ rest
     here = drop_inside s start h ∙ ap (λ (c : ℕ). c ∷ rest) (sym eb)
 
-    token-begun : token_at s at ≡ shown (checked start (b ∷ rest) (candidate (b ∷ rest)))
+    token_begun : token_at s at ≡ shown (checked start (b ∷ rest) (candidate (b ∷ rest)))
     unfolding next_front
-    token-begun = token_front ∙ ap (λ (l : List ℕ). shown (next_front start l)) here
+    token_begun = token_front ∙ ap (λ (l : List ℕ). shown (next_front start l)) here
 
     -- ---- each way to begin
 
-    token-case : (x : Option Piece) → candidate (b ∷ rest) ≡ x → token_at s at ≡ shown (checked start (b ∷ rest) x)
-    token-case x f = token-begun ∙ ap (λ (y : Option Piece). shown (checked start (b ∷ rest) y)) f
+    token_case : (x : Option Piece) → candidate (b ∷ rest) ≡ x → token_at s at ≡ shown (checked start (b ∷ rest) x)
+    token_case x f = token_begun ∙ ap (λ (y : Option Piece). shown (checked start (b ∷ rest) y)) f
 
     module _ (t : Bool) (et : t ≡ between 65 90 b) where
-      pub token-capital : (r : Token) → t ≡ true → r ≡ item_token 0 (drop start s) start → r ≡ token_at s at
+      pub token_capital : (r : Token) → t ≡ true → r ≡ item_token 0 (drop start s) start → r ≡ token_at s at
       unfolding candidate is_capital is_variable variable_bytes variable_number
-      token-capital r y f =
+      token_capital r y f =
           f ∙ ap (λ (l : List ℕ). item_token 0 l start) here
           ∙ ap (item_token 0 (b ∷ rest)) zero_more
-          ∙ sym (token-case (some (item_from blank (b ∷ rest))) (rw (sym et ∙ y)) ∙ item_token_fact blank (b ∷ rest) refl start)
+          ∙ sym (token_case (some (item_from blank (b ∷ rest))) (rw (sym et ∙ y)) ∙ item_token_fact blank (b ∷ rest) refl start)
         where
           zero_more : start ≡ start + 0
           zero_more = omega arith
 
       module _ (n : t ≡ false) (u : Bool) (eu : u ≡ between 97 122 b) where
-        pub token-dotted : (r : Token) (c : ℕ) → u ≡ true → c ≡ get_or s (start + 1) 0 → c ≡ 46
+        pub token_dotted : (r : Token) (c : ℕ) → u ≡ true → c ≡ get_or s (start + 1) 0 → c ≡ 46
             → r ≡ item_token b (drop (start + 2) s) (start + 2) → r ≡ token_at s at
         unfolding variable_bytes variable_number is_variable is_small
-        token-dotted r c y ec k f =
-            f ∙ sym (token-case (some (item_from (letter b) (drop (start + 2) s)))
+        token_dotted r c y ec k f =
+            f ∙ sym (token_case (some (item_from (letter b) (drop (start + 2) s)))
             (candidate_dotted b rest (sym et ∙ n) (drop (start + 2) s) (sym eu ∙ y) split)
             ∙ ap (λ (l : List ℕ). shown (checked start (b ∷ l) (some (item_from (letter b) (drop (start + 2) s))))) split
             ∙ item_token_fact (letter b) (drop (start + 2) s) (sym eu ∙ y) start)
@@ -116,40 +116,40 @@ module _ (s : List ℕ) (at start : ℕ) (e : start ≡ at + run (between 32 32)
                 headed rest 46 (λ z. absurd (omega arith)) (next_byte s start ∙ sym ec ∙ k)
                 ∙ ap (λ (l : List ℕ). 46 ∷ l) (drop-drop 1 (start + 1) s ∙ ap (λ (i : ℕ). drop i s) two)
 
-        pub token-small : (r : Token) (c : ℕ) → u ≡ true → c ≡ get_or s (start + 1) 0 → (c ≡ 46 → ⊥)
+        pub token_small : (r : Token) (c : ℕ) → u ≡ true → c ≡ get_or s (start + 1) 0 → (c ≡ 46 → ⊥)
             → r ≡ fixed_token (drop start s) start → r ≡ token_at s at
         unfolding fixed_token
-        token-small r c y ec k f =
+        token_small r c y ec k f =
             f ∙ ap (λ (l : List ℕ). fixed_token l start) here
-            ∙ sym (token-case (first_of fixed (b ∷ rest))
+            ∙ sym (token_case (first_of fixed (b ∷ rest))
             (candidate_small b rest (sym et ∙ n) (sym eu ∙ y) (λ q. k (ec ∙ sym (next_byte s start) ∙ q))))
 
         module _ (m : u ≡ false) (v : Bool) (ev : v ≡ between 48 57 b) where
-          pub token-digit : (r : Token) → v ≡ true → r ≡ number_token false (drop start s) start → r ≡ token_at s at
-          token-digit r y f =
+          pub token_digit : (r : Token) → v ≡ true → r ≡ number_token false (drop start s) start → r ≡ token_at s at
+          token_digit r y f =
               f ∙ ap (λ (l : List ℕ). number_token false l start) here
               ∙ ap (number_token false (b ∷ rest)) zero_more
-              ∙ sym (token-case (some (constant_from false (b ∷ rest)))
-              (candidate-digit b rest (sym et ∙ n) (sym eu ∙ m) (sym ev ∙ y)) ∙ constant_token_fact false (b ∷ rest) start)
+              ∙ sym (token_case (some (constant_from false (b ∷ rest)))
+              (candidate_digit b rest (sym et ∙ n) (sym eu ∙ m) (sym ev ∙ y)) ∙ constant_token_fact false (b ∷ rest) start)
             where
               zero_more : start ≡ start + 0
               zero_more = omega arith
 
-          pub token-minus : (r : Token) → v ≡ false → b ≡ 45 → r ≡ number_token true (drop (start + 1) s) (start + 1)
+          pub token_minus : (r : Token) → v ≡ false → b ≡ 45 → r ≡ number_token true (drop (start + 1) s) (start + 1)
               → r ≡ token_at s at
-          token-minus r w k f =
-              f ∙ sym (token-case (some (constant_from true rest))
-              (candidate-minus b rest (sym et ∙ n) (sym eu ∙ m) (sym ev ∙ w) k)
+          token_minus r w k f =
+              f ∙ sym (token_case (some (constant_from true rest))
+              (candidate_minus b rest (sym et ∙ n) (sym eu ∙ m) (sym ev ∙ w) k)
               ∙ ap (λ (d : ℕ). shown (checked start (d ∷ rest) (some (constant_from true rest)))) k
               ∙ constant_token_fact true rest start)
 
-          pub token-other : (r : Token) → v ≡ false → (b ≡ 45 → ⊥) → r ≡ fixed_token (drop start s) start
+          pub token_other : (r : Token) → v ≡ false → (b ≡ 45 → ⊥) → r ≡ fixed_token (drop start s) start
               → r ≡ token_at s at
           unfolding fixed_token
-          token-other r w k f =
+          token_other r w k f =
               f ∙ ap (λ (l : List ℕ). fixed_token l start) here
-              ∙ sym (token-case (first_of fixed (b ∷ rest))
-              (candidate-fixed b rest (sym et ∙ n) (sym eu ∙ m) (sym ev ∙ w) k))
+              ∙ sym (token_case (first_of fixed (b ∷ rest))
+              (candidate_fixed b rest (sym et ∙ n) (sym eu ∙ m) (sym ev ∙ w) k))
 
 -- a dot stands inside the text
 pub dot_inside : (s : List ℕ) (start c : ℕ) → c ≡ get_or s (start + 1) 0 → c ≡ 46 → start + 2 ≤ length s

@@ -82,23 +82,23 @@ module _ (s : List ℕ) (at : ℕ) (before : List ℕ) where
   }
 
   module _ {n here : ℕ} {out : List ℕ} (g : Going n here out) (room : 2 * length s ≤ length before) where
-    pub going-long : length out ≡ length before
-    going-long =
+    pub going_long : length out ≡ length before
+    going_long =
         ap length g.words
         ∙ written_length 0 (item_words g.done) before
         (omega (arith, words_long g.done, g.counted, g.few, g.inside, room))
 
     module _ (t : Token) (e : t ≡ token_at s here) where
       -- no item stands there
-      pub going-fails : {r : Items} → r ≡ no_items → OneOf (0 ∷ 1 ∷ 2 ∷ 3 ∷ 5 ∷ []) (tag t)
+      pub going_fails : {r : Items} → r ≡ no_items → OneOf (0 ∷ 1 ∷ 2 ∷ 3 ∷ 5 ∷ []) (tag t)
           → ItemsShow s at before out r (items_at (length s) s at)
       unfolding ItemsShow token_at items_at
-      going-fails {r} f k =
-          subst (ItemsShow s at before out r) (sym (g.goes ∙ then_failed _ (none-there g.left))) (f, going-long)
+      going_fails {r} f k =
+          subst (ItemsShow s at before out r) (sym (g.goes ∙ then_failed _ (none_there g.left))) (f, going_long)
         where
-          none-there : (k : ℕ) → items_at k s here ≡ failed
-          none-there zero = refl
-          none-there (suc j) =
+          none_there : (k : ℕ) → items_at k s here ≡ failed
+          none_there zero = refl
+          none_there (suc j) =
               then_failed _ (no_item (next_at s here)
               (subst (λ (u : Token). OneOf (0 ∷ 1 ∷ 2 ∷ 3 ∷ 5 ∷ []) (tag u)) e k))
 
@@ -107,38 +107,38 @@ module _ (s : List ℕ) (at : ℕ) (before : List ℕ) where
         unfolding token_at
         there = the_item (next_at s here) v m mid (sym e ∙ f)
 
-        pub mid-within : Within s here mid
-        mid-within = found_within s here there.is
+        pub mid_within : Within s here mid
+        mid_within = found_within s here there.is
 
         pub first_room : 2 * n < length out
-        first_room = omega (arith, going-long, g.few, mid-within.after, mid-within.inside, room)
+        first_room = omega (arith, going_long, g.few, mid_within.after, mid_within.inside, room)
 
-        pub second-room : 2 * n + 1 < length out
-        second-room = omega (arith, going-long, g.few, mid-within.after, mid-within.inside, room)
+        pub second_room : 2 * n + 1 < length out
+        second_room = omega (arith, going_long, g.few, mid_within.after, mid_within.inside, room)
 
-        pub second-place : (x : ℕ) {place : ℕ} {once : List ℕ} → once ≡ written (2 * n) (x ∷ []) out → place ≡ 2 * n + 1
+        pub second_place : (x : ℕ) {place : ℕ} {once : List ℕ} → once ≡ written (2 * n) (x ∷ []) out → place ≡ 2 * n + 1
             → place < length once
-        second-place x h p =
-            omega (arith, p, second-room, ap length h, written_length (2 * n) (x ∷ []) out (omega (arith, first_room)))
+        second_place x h p =
+            omega (arith, p, second_room, ap length h, written_length (2 * n) (x ∷ []) out (omega (arith, first_room)))
 
         more : List Item
         more = g.done ++ there.it ∷ []
 
-        more-long : length more ≡ n + 1
+        more_long : length more ≡ n + 1
         unfolding more
-        more-long = length-append g.done (there.it ∷ []) ∙ omega (arith, g.counted)
+        more_long = length-append g.done (there.it ∷ []) ∙ omega (arith, g.counted)
 
         -- its two words
-        more-words : {x place : ℕ} {once out' : List ℕ} → x ≡ v → once ≡ written (2 * n) (x ∷ []) out → place ≡ 2 * n + 1
+        more_words : {x place : ℕ} {once out' : List ℕ} → x ≡ v → once ≡ written (2 * n) (x ∷ []) out → place ≡ 2 * n + 1
             → out' ≡ written place (m ∷ []) once → out' ≡ written 0 (item_words more) before
         unfolding more
-        more-words {place = place} {once} {out'} z h p k =
+        more_words {place = place} {once} {out'} z h p k =
             let ws : List ℕ = item_words g.done in
             let l : length ws ≡ 2 * n = omega (arith, words_long g.done, g.counted) in
             let l0 : 2 * n ≡ 0 + length ws = omega (arith, l) in
             let l1 : 2 * n + 1 ≡ 0 + length (ws ++ v ∷ []) = omega (arith, length-append ws (v ∷ []), l) in
             let r : 0 + length (ws ++ v ∷ []) ≤ length before =
-            omega (arith, length-append ws (v ∷ []), l, g.few, mid-within.after, mid-within.inside, room) in
+            omega (arith, length-append ws (v ∷ []), l, g.few, mid_within.after, mid_within.inside, room) in
             let one : once ≡ written 0 (ws ++ v ∷ []) before =
             h ∙ ap (λ (y : ℕ). written (2 * n) (y ∷ []) out) z
             ∙ ap₂ (λ (j : ℕ) (x : List ℕ). written j (v ∷ []) x) l0 g.words
@@ -155,22 +155,22 @@ module _ (s : List ℕ) (at : ℕ) (before : List ℕ) where
         pub more_same : {x place : ℕ} {once out' : List ℕ} → x ≡ v → once ≡ written (2 * n) (x ∷ []) out → place ≡ 2 * n + 1
             → out' ≡ written place (m ∷ []) once → length out' ≡ length before
         more_same z h p k =
-            ap length (more-words z h p k)
+            ap length (more_words z h p k)
             ∙ written_length 0 (item_words more) before
-            (omega (arith, words_long more, more-long, g.few, mid-within.after, mid-within.inside, room))
+            (omega (arith, words_long more, more_long, g.few, mid_within.after, mid_within.inside, room))
 
         -- what the definition takes there
         taken : (k : ℕ) → length s - here ≤ k → (j : ℕ) × (k ≡ suc j)
-        taken zero h = absurd (omega (arith, mid-within.after, mid-within.inside))
+        taken zero h = absurd (omega (arith, mid_within.after, mid_within.inside))
         taken (suc j) h = (j, refl)
 
         module _ (comma : ℕ) (c : comma ≡ after_token 7 (token_at s mid)) where
           -- the last
-          pub going-last : {x place : ℕ} {once out' : List ℕ} {k : ℕ} → x ≡ v → once ≡ written (2 * n) (x ∷ []) out
+          pub going_last : {x place : ℕ} {once out' : List ℕ} {k : ℕ} → x ≡ v → once ≡ written (2 * n) (x ∷ []) out
               → place ≡ 2 * n + 1 → out' ≡ written place (m ∷ []) once → k ≡ n + 1 → comma ≡ 0
               → ItemsShow s at before out' (record { ok = true; count = k; next = mid }) (items_at (length s) s at)
           unfolding ItemsShow items_at item_of more word_number
-          going-last {out' = out'} {k = k} y h p w q z =
+          going_last {out' = out'} {k = k} y h p w q z =
               let (j, a) = taken g.left g.enough in
               let last : items_at g.left s here ≡ parsed (there.it ∷ []) mid =
               ap (λ (x : ℕ). items_at x s here) a ∙ then_parsed _ (ap item_of there.is)
@@ -179,20 +179,20 @@ module _ (s : List ℕ) (at : ℕ) (before : List ℕ) where
               (sym (g.goes ∙ then_parsed _ last))
               (record {
                 same =
-                    ap {B = Items} (λ (x : ℕ). record { ok = true; count = x; next = mid }) (q ∙ sym more-long);
-                stands = more-words y h p w;
-                forward = omega (arith, g.few, mid-within.after);
-                inside = mid-within.inside;
-                few = omega (arith, more-long, g.few, mid-within.after);
+                    ap {B = Items} (λ (x : ℕ). record { ok = true; count = x; next = mid }) (q ∙ sym more_long);
+                stands = more_words y h p w;
+                forward = omega (arith, g.few, mid_within.after);
+                inside = mid_within.inside;
+                few = omega (arith, more_long, g.few, mid_within.after);
               })
 
           module _ (y : comma ≡ 0 → ⊥) where
-            comma-there : next_at s mid ≡ found (word Comma) comma
+            comma_there : next_at s mid ≡ found (word Comma) comma
             unfolding word_number
-            comma-there = after_some Comma s mid comma c y
+            comma_there = after_some Comma s mid comma c y
 
-            pub comma-within : Within s mid comma
-            comma-within = found_within s mid comma-there
+            pub comma_within : Within s mid comma
+            comma_within = found_within s mid comma_there
 
             -- one more behind a comma
             pub going_next : {x place : ℕ} {once out' : List ℕ} {k : ℕ} → x ≡ v → once ≡ written (2 * n) (x ∷ []) out
@@ -202,18 +202,18 @@ module _ (s : List ℕ) (at : ℕ) (before : List ℕ) where
                 let (j, a) = taken g.left g.enough in
                 let one : items_at g.left s here ≡ (items_at j s comma and_then λ is end. parsed (there.it ∷ is) end) =
                 ap (λ (x : ℕ). items_at x s here) a ∙ then_parsed _ (ap item_of there.is)
-                ∙ if_some _ _ (takes_word s mid Comma comma-there) in
+                ∙ if_some _ _ (takes_word s mid Comma comma_there) in
                 record {
                   done = more;
                   left = j;
-                  enough = omega (arith, g.enough, a, mid-within.after, comma-within.after);
+                  enough = omega (arith, g.enough, a, mid_within.after, comma_within.after);
                   goes =
                       g.goes ∙ ap (λ (x : Parsed (List Item)). x and_then λ js end. parsed (g.done ++ js) end) one
                       ∙ then_then (items_at j s comma) _ _
                       ∙ then_same (items_at j s comma) _ _ (λ is end.
                       ap (λ (x : List Item). parsed x end) (sym (append_assoc g.done (there.it ∷ []) is)));
-                  counted = q ∙ sym more-long;
-                  words = more-words z h p w;
-                  few = omega (arith, q, g.few, mid-within.after, comma-within.after);
-                  inside = comma-within.inside;
+                  counted = q ∙ sym more_long;
+                  words = more_words z h p w;
+                  few = omega (arith, q, g.few, mid_within.after, comma_within.after);
+                  inside = comma_within.inside;
                 }

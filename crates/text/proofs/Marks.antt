@@ -254,15 +254,15 @@ module _ (s : List ℕ) (at : ℕ) (h : at < length s) where
       ∙ greater_front at (drop (at + 1) s) ∙ ap (λ (l : List ℕ). fixed_token l at) (sym (front s at 62 h e))
 
   module _ (e : get_or s at 0 ≡ 60) (b : ℕ) (g : b ≡ get_or s (at + 1) 0) where
-    pub fixed-two : b ≡ 62 → OperatorAt 1 (at + 2) ≡ fixed_token (drop at s) at
-    fixed-two k =
+    pub fixed_two : b ≡ 62 → OperatorAt 1 (at + 2) ≡ fixed_token (drop at s) at
+    fixed_two k =
         two_front at (drop (at + 1) s) (next_byte s at ∙ sym g ∙ k)
         ∙ ap (λ (l : List ℕ). fixed_token l at) (sym (front s at 60 h e))
 
-    pub fixed-less : (r : Token) → (b ≡ 62 → ⊥)
+    pub fixed_less : (r : Token) → (b ≡ 62 → ⊥)
         → r ≡ cond (eqb (get_or s (at + 1) 0) 61) (OperatorAt (2 + 1) (at + 2)) (OperatorAt 2 (at + 1))
         → r ≡ fixed_token (drop at s) at
-    fixed-less r n f =
+    fixed_less r n f =
         f ∙ ap (λ (c : ℕ). cond (eqb c 61) (OperatorAt (2 + 1) (at + 2)) (OperatorAt 2 (at + 1))) (sym (next_byte s at))
         ∙ less_front at (drop (at + 1) s) (λ k. n (g ∙ sym (next_byte s at) ∙ k))
         ∙ ap (λ (l : List ℕ). fixed_token l at) (sym (front s at 60 h e))
@@ -294,29 +294,29 @@ module _ (s : List ℕ) (from end : ℕ) (e : end ≡ from + run (between 65 90)
   )
 
   module _ (n : end ≡ from → ⊥) (h : end - from ≤ 12) (u : Bool) (f : u ≡ is_letter_or_digit (get_or s end 0)) where
-    behind-run : get_or (drop from s) (end - from) 0 ≡ get_or s end 0
-    behind-run = get_or-drop from s (end - from) 0 ∙ ap (λ (k : ℕ). get_or s k 0) there
+    behind_run : get_or (drop from s) (end - from) 0 ≡ get_or s end 0
+    behind_run = get_or-drop from s (end - from) 0 ∙ ap (λ (k : ℕ). get_or s k 0) there
       where
         there : from + (end - from) ≡ end
         there = omega arith
 
-    pub item-goes : (v : ℕ) → u ≡ true → NoPiece ≡ item_token v (drop from s) from
+    pub item_goes : (v : ℕ) → u ≡ true → NoPiece ≡ item_token v (drop from s) from
     unfolding item_token
-    item-goes v k = rw (
+    item_goes v k = rw (
       letters,
       le-leb 1 (end - from) (omega arith),
       le-leb (end - from) 12 h,
-      behind-run,
+      behind_run,
       ← f,
       k,
     )
 
-    pub item-is : (v m : ℕ) → u ≡ false → m ≡ name_number (take (end - from) (drop from s))
+    pub item_is : (v m : ℕ) → u ≡ false → m ≡ name_number (take (end - from) (drop from s))
         → ItemAt v m end ≡ item_token v (drop from s) from
     unfolding item_token
-    item-is v m k g =
+    item_is v m k g =
         let there : end ≡ from + (end - from) = omega arith in
-        rw (letters, le-leb 1 (end - from) (omega arith), le-leb (end - from) 12 h, behind-run, ← f, k)
+        rw (letters, le-leb 1 (end - from) (omega arith), le-leb (end - from) 12 h, behind_run, ← f, k)
         (ap₂ (ItemAt v) g there)
 
 module _ (s : List ℕ) (from end : ℕ) (e : end ≡ from + run (between 48 57) (drop from s)) where
@@ -329,22 +329,22 @@ module _ (s : List ℕ) (from end : ℕ) (e : end ≡ from + run (between 48 57)
   constant_none minus h = let z : run is_digit (drop from s) ≡ 0 = omega (arith, digits) in rw z
 
   module _ (n : end ≡ from → ⊥) (u : Bool) (f : u ≡ is_letter_or_digit (get_or s end 0)) where
-    behind-digits : get_or (drop from s) (end - from) 0 ≡ get_or s end 0
-    behind-digits = get_or-drop from s (end - from) 0 ∙ ap (λ (k : ℕ). get_or s k 0) there
+    behind_digits : get_or (drop from s) (end - from) 0 ≡ get_or s end 0
+    behind_digits = get_or-drop from s (end - from) 0 ∙ ap (λ (k : ℕ). get_or s k 0) there
       where
         there : from + (end - from) ≡ end
         there = omega arith
 
-    pub constant-goes : (minus : Bool) → u ≡ true → NoPiece ≡ number_token minus (drop from s) from
+    pub constant_goes : (minus : Bool) → u ≡ true → NoPiece ≡ number_token minus (drop from s) from
     unfolding number_token
-    constant-goes minus k = rw (digits, le-leb 1 (end - from) (omega arith), behind-digits, ← f, k)
+    constant_goes minus k = rw (digits, le-leb 1 (end - from) (omega arith), behind_digits, ← f, k)
 
-    pub constant-is : (minus : Bool) (m : ℕ) → u ≡ false → m ≡ magnitude (take (end - from) (drop from s))
+    pub constant_is : (minus : Bool) (m : ℕ) → u ≡ false → m ≡ magnitude (take (end - from) (drop from s))
         → NumberAt minus m end ≡ number_token minus (drop from s) from
     unfolding number_token
-    constant-is minus m k g =
+    constant_is minus m k g =
         let there : end ≡ from + (end - from) = omega arith in
-        rw (digits, le-leb 1 (end - from) (omega arith), behind-digits, ← f, k) (ap₂ (NumberAt minus) g there)
+        rw (digits, le-leb 1 (end - from) (omega arith), behind_digits, ← f, k) (ap₂ (NumberAt minus) g there)
 
 pub outside : (s : List ℕ) (at : ℕ) → length s ≤ at → 0 ≡ get_or s at 0
 outside s at h = sym (get_or-eq_default s 0 h)

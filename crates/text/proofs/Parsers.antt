@@ -53,18 +53,18 @@ module _ (s : List ℕ) (c : Parse) where
   closed_fails r e n = e ∙ sym (closing_none (not-true c.ok n))
 
   module _ (h : c.ok ≡ true → (c.next ≤ length s) × (c.depth < length s)) (ok : not c.ok ≡ false) where
-    pub closed-inside : c.next ≤ length s
-    closed-inside = (h (not-false c.ok ok)).0
+    pub closed_inside : c.next ≤ length s
+    closed_inside = (h (not-false c.ok ok)).0
 
-    pub closed-depth : c.depth < length s
-    closed-depth = (h (not-false c.ok ok)).1
+    pub closed_depth : c.depth < length s
+    closed_depth = (h (not-false c.ok ok)).1
 
   module _ (ok : not c.ok ≡ false) (end : ℕ) (e : end ≡ after_token 6 (token_at s c.next)) where
-    pub closed-missing : (r : Parse) → r ≡ nothing → end ≡ 0 → r ≡ closing s c
-    closed-missing r f z = f ∙ sym (closing_some (not-false c.ok ok) ∙ closed_zero _ (sym e ∙ z))
+    pub closed_missing : (r : Parse) → r ≡ nothing → end ≡ 0 → r ≡ closing s c
+    closed_missing r f z = f ∙ sym (closing_some (not-false c.ok ok) ∙ closed_zero _ (sym e ∙ z))
 
-    pub closed-there : (end ≡ 0 → ⊥) → record { ok = true; next = end; depth = c.depth + 1; end = c.end } ≡ closing s c
-    closed-there n = sym (closing_some (not-false c.ok ok) ∙ ap (closed_by c) (sym e) ∙ closed_suc end n)
+    pub closed_there : (end ≡ 0 → ⊥) → record { ok = true; next = end; depth = c.depth + 1; end = c.end } ≡ closing s c
+    closed_there n = sym (closing_some (not-false c.ok ok) ∙ ap (closed_by c) (sym e) ∙ closed_suc end n)
 
 -- ---- the words of a comparison
 
@@ -83,8 +83,8 @@ module _ (s : List ℕ) (at to : ℕ) (before : List ℕ) (x : Compared) (h : Co
     unfolding compared_words
     words_long = refl
 
-    pub comparison-room : to + 6 ≤ length before
-    comparison-room = go (comparison_at s at) h
+    pub comparison_room : to + 6 ≤ length before
+    comparison_room = go (comparison_at s at) h
       where
         go : (y : Parsed Deep) → ComparedShows s at x y → to + 6 ≤ length before
         go failed k = unfold ComparedShows in absurd (yes_no (not-false x.ok ok) k)
@@ -94,10 +94,10 @@ module _ (s : List ℕ) (at to : ℕ) (before : List ℕ) (x : Compared) (h : Co
       abbrev value : Parse
       value = record { ok = true; next = x.next; depth = 0; end = end }
 
-      comparison-shows : (c : Deep) (next : ℕ) → ComparedShows s at x (parsed c next)
+      comparison_shows : (c : Deep) (next : ℕ) → ComparedShows s at x (parsed c next)
           → ShowsParsed s at to before after value c next
       unfolding ComparedShows
-      comparison-shows c next k = record {
+      comparison_shows c next k = record {
         same = λ i. record { ok = true; next = k.1 i; depth = sym k.3 i; end = there i };
         stands = w ∙ ap (λ (l : List ℕ). written to l before) k.2;
         forward = omega (arith, k.4);
@@ -112,15 +112,15 @@ module _ (s : List ℕ) (at to : ℕ) (before : List ℕ) (x : Compared) (h : Co
           there : end ≡ to + length (program c.condition)
           there = omega (arith, long)
 
-      comparison-case : (y : Parsed Deep) → comparison_at s at ≡ y → ComparedShows s at x y
+      comparison_case : (y : Parsed Deep) → comparison_at s at ≡ y → ComparedShows s at x y
           → Gave (λ n. comparison_at s at) 0 s at to before after value
       unfolding Shows ComparedShows
-      comparison-case failed f k = absurd (yes_no (not-false x.ok ok) k)
-      comparison-case (parsed c next) f k =
-          record { given = parsed c next; steady = λ n l. f; shown = comparison-shows c next k }
+      comparison_case failed f k = absurd (yes_no (not-false x.ok ok) k)
+      comparison_case (parsed c next) f k =
+          record { given = parsed c next; steady = λ n l. f; shown = comparison_shows c next k }
 
-      pub comparison-done : Gave (λ n. comparison_at s at) 0 s at to before after value
-      comparison-done = comparison-case (comparison_at s at) refl h
+      pub comparison_done : Gave (λ n. comparison_at s at) 0 s at to before after value
+      comparison_done = comparison_case (comparison_at s at) refl h
 
 -- ---- one word more before a parser's place
 
@@ -130,15 +130,15 @@ module _ (s : List ℕ) (at to : ℕ) (before : List ℕ) (room : to + 2 * (leng
     pub inner_room : to + 2 * (length s - next) ≤ length before
     inner_room = omega (arith, w.after, w.inside)
 
-    inner-slack : to + 2 * (length s - next) + 2 ≤ length before
-    inner-slack = omega (arith, w.after, w.inside)
+    inner_slack : to + 2 * (length s - next) + 2 ≤ length before
+    inner_slack = omega (arith, w.after, w.inside)
 
     module _ (after : List ℕ) (q : Parse) (x : Parsed Deep) (h : Shows s next to before after q x) where
-      pub inner-length : length after ≡ length before
-      inner-length = shows_same s next to before after q x h inner_room
+      pub inner_length : length after ≡ length before
+      inner_length = shows_same s next to before after q x h inner_room
 
-      pub inner-end : q.ok ≡ true → q.end < length after
-      inner-end y = go x h
+      pub inner_end : q.ok ≡ true → q.end < length after
+      inner_end y = go x h
         where
           go : (x : Parsed Deep) → Shows s next to before after q x → q.end < length after
           go failed k = unfold Shows in absurd (nothing_not q k.0 y)
@@ -148,12 +148,12 @@ module _ (s : List ℕ) (at to : ℕ) (before : List ℕ) (room : to + 2 * (leng
             k.words,
             k.inside,
             k.forward,
-            inner-slack,
-            inner-length,
+            inner_slack,
+            inner_length,
           )
 
-      pub inner-closed : q.ok ≡ true → (q.next ≤ length s) × (q.depth < length s)
-      inner-closed y = go x h
+      pub inner_closed : q.ok ≡ true → (q.next ≤ length s) × (q.depth < length s)
+      inner_closed y = go x h
         where
           go : (x : Parsed Deep) → Shows s next to before after q x → (q.next ≤ length s) × (q.depth < length s)
           go failed k = unfold Shows in absurd (nothing_not q k.0 y)
@@ -255,11 +255,11 @@ module _ (s : List ℕ) (at to : ℕ) (before : List ℕ) (room : to + 2 * (leng
   -- ---- primaries
 
   module _ (e : next ≡ after_token 5 (token_at s at)) where
-    pub primary-plain : (after : List ℕ) (r : Parse) → next ≡ 0
+    pub primary_plain : (after : List ℕ) (r : Parse) → next ≡ 0
         → Gave (λ n. comparison_at s at) 0 s at to before after r
         → Gave (λ n. primary_at n s at) (4 * (length s - at) + 1) s at to before after r
     unfolding word_number
-    primary-plain after r z g = record { given = g.given; steady = go; shown = g.shown }
+    primary_plain after r z g = record { given = g.given; steady = go; shown = g.shown }
       where
         stops : behind Opening (next_at s at) ≡ none
         stops = after_none Opening s at next e z
@@ -268,9 +268,9 @@ module _ (s : List ℕ) (at to : ℕ) (before : List ℕ) (room : to + 2 * (leng
         go zero l = absurd (omega arith)
         go (suc n) l = unfold or_at in (if_none _ _ stops ∙ g.steady 0 (omega arith))
 
-    pub primary-within : (next ≡ 0 → ⊥) → Within s at next
+    pub primary_within : (next ≡ 0 → ⊥) → Within s at next
     unfolding word_number
-    primary-within n = found_within s at (after_some Opening s at next e n)
+    primary_within n = found_within s at (after_some Opening s at next e n)
 
     module _ (n : next ≡ 0 → ⊥) where
       opened : behind Opening (next_at s at) ≡ some next
@@ -283,46 +283,46 @@ module _ (s : List ℕ) (at to : ℕ) (before : List ℕ) (room : to + 2 * (leng
       unfolding or_at
       primary_step m = if_some _ _ opened
 
-      abbrev closedOr : Deep → ℕ → Parsed Deep
-      closedOr c mid = if_word (behind Closing (next_at s mid))
+      abbrev closed_or : Deep → ℕ → Parsed Deep
+      closed_or c mid = if_word (behind Closing (next_at s mid))
           (λ end. parsed (record { condition = c.condition; depth = suc c.depth }) end) (λ u. failed)
 
-      primary-steady : (x y : Parsed Deep) → ((m : ℕ) → 4 * (length s - next) + 4 ≤ m → or_at m s next ≡ x)
-          → (x and_then closedOr) ≡ y → (m : ℕ) → 4 * (length s - at) + 1 ≤ m → primary_at m s at ≡ y
-      primary-steady x y f g zero l = absurd (omega arith)
-      primary-steady x y f g (suc m) l =
+      primary_steady : (x y : Parsed Deep) → ((m : ℕ) → 4 * (length s - next) + 4 ≤ m → or_at m s next ≡ x)
+          → (x and_then closed_or) ≡ y → (m : ℕ) → 4 * (length s - at) + 1 ≤ m → primary_at m s at ≡ y
+      primary_steady x y f g zero l = absurd (omega arith)
+      primary_steady x y f g (suc m) l =
           primary_step m
-          ∙ ap (λ (z : Parsed Deep). z and_then closedOr)
-          (f m (omega (arith, (primary-within n).after, (primary-within n).inside)))
+          ∙ ap (λ (z : Parsed Deep). z and_then closed_or)
+          (f m (omega (arith, (primary_within n).after, (primary_within n).inside)))
           ∙ g
 
       module _ (after : List ℕ) (q r : Parse) (er : r ≡ closing s q) where
         abbrev Result : Type 0
         Result = Gave (λ n. primary_at n s at) (4 * (length s - at) + 1) s at to before after r
 
-        primary-fails : (x : Parsed Deep) → ((m : ℕ) → 4 * (length s - next) + 4 ≤ m → or_at m s next ≡ x)
-            → (x and_then closedOr) ≡ failed → r ≡ nothing → length after ≡ length before → Result
+        primary_fails : (x : Parsed Deep) → ((m : ℕ) → 4 * (length s - next) + 4 ≤ m → or_at m s next ≡ x)
+            → (x and_then closed_or) ≡ failed → r ≡ nothing → length after ≡ length before → Result
         unfolding Shows
-        primary-fails x f g h l = record { given = failed; steady = primary-steady x failed f g; shown = (h, l) }
+        primary_fails x f g h l = record { given = failed; steady = primary_steady x failed f g; shown = (h, l) }
 
         -- the closing parenthesis is there, or it is not
-        primary-ends : (g : Deep) (mid : ℕ) → ((m : ℕ) → 4 * (length s - next) + 4 ≤ m → or_at m s next ≡ parsed g mid)
+        primary_ends : (g : Deep) (mid : ℕ) → ((m : ℕ) → 4 * (length s - next) + 4 ≤ m → or_at m s next ≡ parsed g mid)
             → ShowsParsed s next to before after q g mid → (end : ℕ) → end ≡ after_token 6 (token_at s q.next) → Result
         unfolding Shows ◌andThen◌ word_number
-        primary-ends g mid f k zero e6 =
-            primary-fails (parsed g mid) f
+        primary_ends g mid f k zero e6 =
+            primary_fails (parsed g mid) f
             (if_none _ _ (subst (λ (m : ℕ). behind Closing (next_at s m) ≡ none) (shows_next k)
             (after_none Closing s q.next zero e6 refl)))
             (er ∙ closing_some s q (shows_ok k) ∙ closed_zero s q _ (sym e6))
-            (inner-length (primary-within n) after q (parsed g mid) k)
-        primary-ends g mid f k (suc end) e6 =
+            (inner_length (primary_within n) after q (parsed g mid) k)
+        primary_ends g mid f k (suc end) e6 =
             let found6 = after_some Closing s q.next (suc end) e6 (λ z. absurd (omega arith)) in
             let there = subst (λ (m : ℕ). next_at s m ≡ found (word Closing) (suc end)) (shows_next k) found6 in
             let w = found_within s mid there in
-            let v = primary-within n in
+            let v = primary_within n in
             record {
               given = parsed (record { condition = g.condition; depth = suc g.depth }) (suc end);
-              steady = primary-steady (parsed g mid) _ f (if_some _ _ (takes_word s mid Closing there));
+              steady = primary_steady (parsed g mid) _ f (if_some _ _ (takes_word s mid Closing there));
               shown = record {
                 same = er ∙ closing_some s q (shows_ok k) ∙ ap (closed_by q) (sym e6)
                     ∙ closed_suc s q (suc end) (λ z. absurd (omega arith))
@@ -336,15 +336,15 @@ module _ (s : List ℕ) (at to : ℕ) (before : List ℕ) (room : to + 2 * (leng
               };
             }
 
-        pub primary-closed : Gave (λ n. or_at n s next) (4 * (length s - next) + 4) s next to before after q → Result
-        primary-closed p = go p.given p.steady p.shown
+        pub primary_closed : Gave (λ n. or_at n s next) (4 * (length s - next) + 4) s next to before after q → Result
+        primary_closed p = go p.given p.steady p.shown
           where
             go : (x : Parsed Deep) → ((m : ℕ) → 4 * (length s - next) + 4 ≤ m → or_at m s next ≡ x)
                 → Shows s next to before after q x → Result
             go failed f k = unfold Shows ◌andThen◌ in
-                (primary-fails failed f refl (er ∙ ap (closing s) k.0 ∙ closing_none s nothing (unfold nothing in refl))
+                (primary_fails failed f refl (er ∙ ap (closing s) k.0 ∙ closing_none s nothing (unfold nothing in refl))
                 k.1)
-            go (parsed g mid) f k = unfold Shows in (primary-ends g mid f k _ refl)
+            go (parsed g mid) f k = unfold Shows in (primary_ends g mid f k _ refl)
 
 -- ---- the chains
 
@@ -352,7 +352,7 @@ pub or_chain : (s : List ℕ) → Chain s Or either 3 3 (λ n at. or_at n s at) 
 unfolding or_at program
 or_chain s = record {
   whole_is = λ n at. refl;
-  more-is = λ n c at. refl;
+  more_is = λ n c at. refl;
   words = λ c e. refl;
   small = omega arith;
 }
@@ -362,7 +362,7 @@ pub and_chain : (s : List ℕ)
 unfolding or_at program
 and_chain s = record {
   whole_is = λ n at. refl;
-  more-is = λ n c at. refl;
+  more_is = λ n c at. refl;
   words = λ c e. refl;
   small = omega arith;
 }

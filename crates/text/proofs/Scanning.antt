@@ -121,8 +121,8 @@ module _ (s : List ℕ) (at : ℕ) (text : List ℕ) where
     front = m.same ∙ ap (λ (l : List ℕ). begins l (drop (at + i) s)) (drop_inside text i h)
         ∙ ap (begins (get_or text i 0 ∷ drop (i + 1) text)) (drop_inside s (at + i) (omega (arith, m.room)))
 
-    pub matching-next : get_or s (at + i) 0 ≡ get_or text i 0 → Matching s at text (i + 1)
-    matching-next e =
+    pub matching_next : get_or s (at + i) 0 ≡ get_or text i 0 → Matching s at text (i + 1)
+    matching_next e =
         let there : at + i + 1 ≡ at + (i + 1) = omega arith in
         record {
           within = omega arith;
@@ -131,8 +131,8 @@ module _ (s : List ℕ) (at : ℕ) (text : List ℕ) where
               (eq-eqb _ _ (sym e)) ∙ ap (λ (n : ℕ). begins (drop (i + 1) text) (drop n s)) there;
         }
 
-    pub matching-fails : (get_or s (at + i) 0 ≡ get_or text i 0 → ⊥) → false ≡ begins text (drop at s)
-    matching-fails n = sym (front ∙ ap (λ (t : Bool). t && begins (drop (i + 1) text) (drop (at + i + 1) s))
+    pub matching_fails : (get_or s (at + i) 0 ≡ get_or text i 0 → ⊥) → false ≡ begins text (drop at s)
+    matching_fails n = sym (front ∙ ap (λ (t : Bool). t && begins (drop (i + 1) text) (drop (at + i + 1) s))
         (ne_eqb _ _ (λ e. n (sym e))))
 
   pub matching_ends : (i : ℕ) → Matching s at text i → length text ≤ i → true ≡ begins text (drop at s)
@@ -172,15 +172,15 @@ module _ (s : List ℕ) (from end m i : ℕ) where
     room : m + 16 ≤ 16 * 27 ^ 11
     room = letters_room m (i - from) (omega (arith, n.behind)) n.small
 
-    pub naming-times : Fits w64 (m * 27)
-    naming-times = omega (arith, room)
+    pub naming_times : Fits w64 (m * 27)
+    naming_times = omega (arith, room)
 
-    pub naming-fits : (d : ℕ) → d < 256 → Fits w64 (m * 27 + d)
-    naming-fits d k = omega (arith, room)
+    pub naming_fits : (d : ℕ) → d < 256 → Fits w64 (m * 27 + d)
+    naming_fits d k = omega (arith, room)
 
-    pub naming-next : (d : ℕ) → d ≡ get_or s i 0 - 64 → d < 256 → end ≤ length s → Naming s from end (m * 27 + d) (i + 1)
+    pub naming_next : (d : ℕ) → d ≡ get_or s i 0 - 64 → d < 256 → end ≤ length s → Naming s from end (m * 27 + d) (i + 1)
     unfolding name_from
-    naming-next d e k inside = record {
+    naming_next d e k inside = record {
       within = omega arith;
       behind = omega (arith, n.behind);
       small = rw (ap (λ (j : ℕ). 27 ^ j) later, pow-suc) (omega (arith, n.small));

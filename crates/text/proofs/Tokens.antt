@@ -31,13 +31,13 @@ module _ (s : List ℕ) (at n : ℕ) (text : List ℕ) (t : Bool) (e : t ≡ beg
   word_not h = rw (← e, not-true t h)
 
   module _ (h : not t ≡ false) (u : Bool) (f : u ≡ is_letter_or_digit (get_or s (at + length text) 0)) where
-    pub word-goes : u ≡ true → NoPiece ≡ word_token n text (drop at s) at
+    pub word_goes : u ≡ true → NoPiece ≡ word_token n text (drop at s) at
     unfolding word_token
-    word-goes k = rw (← e, not-false t h, get_or-drop, ← f, k)
+    word_goes k = rw (← e, not-false t h, get_or-drop, ← f, k)
 
-    pub word-is : u ≡ false → WordAt n (at + length text) ≡ word_token n text (drop at s) at
+    pub word_is : u ≡ false → WordAt n (at + length text) ≡ word_token n text (drop at s) at
     unfolding word_token
-    word-is k = rw (← e, not-false t h, get_or-drop, ← f, k)
+    word_is k = rw (← e, not-false t h, get_or-drop, ← f, k)
 
 -- ---- runs
 

@@ -117,42 +117,42 @@ module _ (s : List ℕ) (first : ℕ) (e1 : first ≡ after_token 0 (token_at s 
   no_retrieve z = head_failed s (if_none _ _ (after_none Retrieve s 0 first e1 z))
 
   module _ (y1 : first ≡ 0 → ⊥) where
-    retrieve-there : next_at s 0 ≡ found (word Retrieve) first
+    retrieve_there : next_at s 0 ≡ found (word Retrieve) first
     unfolding word_number
-    retrieve-there = after_some Retrieve s 0 first e1 y1
+    retrieve_there = after_some Retrieve s 0 first e1 y1
 
     pub first_inside : first ≤ length s
-    first_inside = (found_within s 0 retrieve-there).inside
+    first_inside = (found_within s 0 retrieve_there).inside
 
     module _ (second : ℕ) (e2 : second ≡ after_token 5 (token_at s first)) where
-      pub no-opening : second ≡ 0 → parse s ≡ none
+      pub no_opening : second ≡ 0 → parse s ≡ none
       unfolding head_at word_number
-      no-opening z =
-          head_failed s (if_some _ _ (takes_word s 0 Retrieve retrieve-there)
+      no_opening z =
+          head_failed s (if_some _ _ (takes_word s 0 Retrieve retrieve_there)
           ∙ if_none _ _ (after_none Opening s first second e2 z))
 
       module _ (y2 : second ≡ 0 → ⊥) where
-        opening-there : next_at s first ≡ found (word Opening) second
+        opening_there : next_at s first ≡ found (word Opening) second
         unfolding word_number
-        opening-there = after_some Opening s first second e2 y2
+        opening_there = after_some Opening s first second e2 y2
 
         pub second_inside : second ≤ length s
-        second_inside = (found_within s first opening-there).inside
+        second_inside = (found_within s first opening_there).inside
 
         -- behind the opening parenthesis
-        head-is : head_at s
+        head_is : head_at s
             ≡ (items_at (length s) s second and_then λ is third.
             if_word (behind Closing (next_at s third)) (λ fourth. parsed is fourth) (λ u. failed))
         unfolding head_at
-        head-is =
-            if_some _ _ (takes_word s 0 Retrieve retrieve-there)
-            ∙ if_some _ _ (takes_word s first Opening opening-there)
+        head_is =
+            if_some _ _ (takes_word s 0 Retrieve retrieve_there)
+            ∙ if_some _ _ (takes_word s first Opening opening_there)
 
         module _ (before out : List ℕ) (r : Items) (show : ItemsShow s second before out r (items_at (length s) s second)) where
           pub no_list : not r.ok ≡ true → (parse s ≡ none) × (length out ≡ length before)
           no_list n =
               let (x, l) = items_none s second before out r (items_at (length s) s second) show (not-true r.ok n) in
-              (head_failed s (head-is ∙ then_failed _ x), l)
+              (head_failed s (head_is ∙ then_failed _ x), l)
 
           module _ (y3 : not r.ok ≡ false) (room : 2 * length s ≤ length before) where
             list : ItemsFound s second before out r (items_at (length s) s second)
@@ -168,11 +168,11 @@ module _ (s : List ℕ) (first : ℕ) (e1 : first ≡ after_token 0 (token_at s 
             third_inside = omega (arith, next_is, list.shown.inside)
 
             -- words and bytes: two words to a byte at most
-            pub words-few : 2 * r.count + 2 * second ≤ 2 * r.next
-            words-few = omega (arith, next_is, count_is, list.shown.few, list.shown.forward)
+            pub words_few : 2 * r.count + 2 * second ≤ 2 * r.next
+            words_few = omega (arith, next_is, count_is, list.shown.few, list.shown.forward)
 
-            pub list-long : length out ≡ length before
-            list-long =
+            pub list_long : length out ≡ length before
+            list_long =
                 ap length list.shown.stands
                 ∙ written_length 0 (item_words list.items) before
                 (omega (arith, words_long list.items, list.shown.few, list.shown.forward, list.shown.inside, room))
@@ -181,44 +181,44 @@ module _ (s : List ℕ) (first : ℕ) (e1 : first ≡ after_token 0 (token_at s 
               closing_at : fourth ≡ after_token 6 (token_at s list.next)
               closing_at = e4 ∙ ap (λ (k : ℕ). after_token 6 (token_at s k)) next_is
 
-              pub no-closing : fourth ≡ 0 → parse s ≡ none
+              pub no_closing : fourth ≡ 0 → parse s ≡ none
               unfolding word_number
-              no-closing z =
-                  head_failed s (head-is ∙ then_parsed _ list.is
+              no_closing z =
+                  head_failed s (head_is ∙ then_parsed _ list.is
                   ∙ if_none _ _ (after_none Closing s list.next fourth closing_at z))
 
               module _ (y4 : fourth ≡ 0 → ⊥) where
-                closing-there : next_at s list.next ≡ found (word Closing) fourth
+                closing_there : next_at s list.next ≡ found (word Closing) fourth
                 unfolding word_number
-                closing-there = after_some Closing s list.next fourth closing_at y4
+                closing_there = after_some Closing s list.next fourth closing_at y4
 
-                fourth-within : Within s list.next fourth
-                fourth-within = found_within s list.next closing-there
+                fourth_within : Within s list.next fourth
+                fourth_within = found_within s list.next closing_there
 
-                pub fourth-inside : fourth ≤ length s
-                fourth-inside = fourth-within.inside
+                pub fourth_inside : fourth ≤ length s
+                fourth_inside = fourth_within.inside
 
-                parse-is : parse s ≡ text_end s list.items fourth
+                parse_is : parse s ≡ text_end s list.items fourth
                 unfolding parse
-                parse-is =
+                parse_is =
                     let e : head_at s ≡ parsed list.items fourth =
-                    head-is ∙ then_parsed _ list.is
-                    ∙ if_some _ _ (takes_word s list.next Closing closing-there) in
+                    head_is ∙ then_parsed _ list.is
+                    ∙ if_some _ _ (takes_word s list.next Closing closing_there) in
                     rw (parse, e)
 
                 -- ---- behind its items
 
                 module _ (wanted : ℕ) (e5 : wanted ≡ after_token 1 (token_at s fourth)) where
                   -- no condition
-                  pub plain-shows : {t : Text} {from : ℕ} → wanted ≡ 0 → from ≡ 2 * r.count
+                  pub plain_shows : {t : Text} {from : ℕ} → wanted ≡ 0 → from ≡ 2 * r.count
                       → t ≡ text_if (is_at_end (token_at s fourth))
                       (record { ok = true; items = r.count; conditional = false; depth = 0; end = from })
                       → TextShows before out t (parse s)
                   unfolding text_end token_at word_number text_of reading_words condition_words is_conditional
-                  plain-shows {t} {from} z f g =
+                  plain_shows {t} {from} z f g =
                       let rd : Reading = record { items = list.items; condition = none; depth = 0 } in
                       let p : parse s ≡ whole rd (next_at s fourth) =
-                      parse-is ∙ rw (text_end, after_none Where s fourth wanted e5 z) in
+                      parse_is ∙ rw (text_end, after_none Where s fourth wanted e5 z) in
                       let ws : reading_words rd ≡ item_words list.items = append-nil (item_words list.items) in
                       let e : from ≡ length (reading_words rd) =
                       f ∙ omega (arith, count_is, words_long list.items, ap length ws) in
@@ -228,7 +228,7 @@ module _ (s : List ℕ) (first : ℕ) (e1 : first ≡ after_token 0 (token_at s 
                       record { ok = true; items = x; conditional = false; depth = 0; end = y }) count_is e in
                       both _ t _ (parse s) (sym g) (sym p)
                       (end_shows (next_at s fourth) rd before out _ same
-                      (list.shown.stands ∙ ap (λ (l : List ℕ). written 0 l before) (sym ws)) list-long)
+                      (list.shown.stands ∙ ap (λ (l : List ℕ). written 0 l before) (sym ws)) list_long)
                     where
                       both : (a b : Text) (x y : Option Reading) → a ≡ b → x ≡ y → TextShows before out a x
                           → TextShows before out b y
@@ -238,24 +238,24 @@ module _ (s : List ℕ) (first : ℕ) (e1 : first ≡ after_token 0 (token_at s 
 
                   -- a condition
                   module _ (y5 : wanted ≡ 0 → ⊥) where
-                    where-there : next_at s fourth ≡ found (word Where) wanted
+                    where_there : next_at s fourth ≡ found (word Where) wanted
                     unfolding word_number
-                    where-there = after_some Where s fourth wanted e5 y5
+                    where_there = after_some Where s fourth wanted e5 y5
 
-                    wanted-within : Within s fourth wanted
-                    wanted-within = found_within s fourth where-there
+                    wanted_within : Within s fourth wanted
+                    wanted_within = found_within s fourth where_there
 
-                    pub wanted-inside : wanted ≤ length s
-                    wanted-inside = wanted-within.inside
+                    pub wanted_inside : wanted ≤ length s
+                    wanted_inside = wanted_within.inside
 
                     module _ (from : ℕ) (f : from ≡ 2 * r.count) where
-                      pub condition-room : from + 2 * (length s - wanted) ≤ length out
-                      condition-room =
-                          omega (arith, f, words-few, next_is, fourth-within.after, wanted-within.after, wanted-inside, list-long, room)
+                      pub condition_room : from + 2 * (length s - wanted) ≤ length out
+                      condition_room =
+                          omega (arith, f, words_few, next_is, fourth_within.after, wanted_within.after, wanted_inside, list_long, room)
 
-                      parse-conditional : parse s ≡ conditioned s list.items (condition_at s wanted)
+                      parse_conditional : parse s ≡ conditioned s list.items (condition_at s wanted)
                       unfolding text_end
-                      parse-conditional = parse-is ∙ rw (text_end, takes_word s fourth Where where-there)
+                      parse_conditional = parse_is ∙ rw (text_end, takes_word s fourth Where where_there)
 
                       module _ (after : List ℕ) (c : Parse)
                           (g : Gave (λ n. or_at n s wanted) (4 * (length s - wanted) + 4) s wanted from out after c) where
@@ -265,34 +265,34 @@ module _ (s : List ℕ) (first : ℕ) (e1 : first ≡ after_token 0 (token_at s 
 
                         pub after_long : length after ≡ length before
                         after_long =
-                            shows_same s wanted from out after c g.given g.shown condition-room ∙ list-long
+                            shows_same s wanted from out after c g.given g.shown condition_room ∙ list_long
 
-                        pub no-condition : not c.ok ≡ true → parse s ≡ none
+                        pub no_condition : not c.ok ≡ true → parse s ≡ none
                         unfolding conditioned
-                        no-condition n =
-                            parse-conditional ∙ ap (conditioned s list.items) (given_is
+                        no_condition n =
+                            parse_conditional ∙ ap (conditioned s list.items) (given_is
                             ∙ shows_none s wanted from out after c g.given g.shown (not-true c.ok n))
 
                         module _ (y6 : not c.ok ≡ false) where
                           there : ConditionFound s wanted from out after c g.given
                           there = condition_found s wanted from out after c g.given g.shown (not-false c.ok y6)
 
-                          pub end-inside : c.next ≤ length s
-                          end-inside = omega (arith, shows_next there.shown, there.shown.inside)
+                          pub end_inside : c.next ≤ length s
+                          end_inside = omega (arith, shows_next there.shown, there.shown.inside)
 
-                          pub whole-shows : {t : Text}
+                          pub whole_shows : {t : Text}
                               → t ≡ text_if (is_at_end (token_at s c.next))
                               (record { ok = true; items = r.count; conditional = true; depth = c.depth; end = c.end })
                               → TextShows before after t (parse s)
                           unfolding conditioned token_at text_of reading_words condition_words is_conditional
-                          whole-shows {t} h =
+                          whole_shows {t} h =
                               let d : Deep = there.condition in
                               let rd : Reading =
                               record { items = list.items; condition = some d.condition; depth = d.depth } in
                               let ws : List ℕ = item_words list.items in
                               let l : length ws ≡ from = omega (arith, words_long list.items, count_is, f) in
                               let p : parse s ≡ whole rd (next_at s there.next) =
-                              parse-conditional ∙ ap (conditioned s list.items) (given_is ∙ there.is) in
+                              parse_conditional ∙ ap (conditioned s list.items) (given_is ∙ there.is) in
                               let e : c.end ≡ length (ws ++ program d.condition) =
                               shows_end there.shown ∙ omega (arith, length-append ws (program d.condition), l) in
                               let same : ◌≡◌ {A = Text}
@@ -310,7 +310,7 @@ module _ (s : List ℕ) (first : ℕ) (e1 : first ≡ after_token 0 (token_at s 
                               ∙ ap₂ (λ (j : ℕ) (x : List ℕ). written j (program d.condition) x)
                               (omega (arith, l)) list.shown.stands
                               ∙ written_both 0 ws (program d.condition) before
-                              (omega (arith, l, f, words-few, third_inside, room)) in
+                              (omega (arith, l, f, words_few, third_inside, room)) in
                               both _ t _ (parse s)
                               (sym (h ∙ ap (λ (k : ℕ). text_if (is_at_end (shown (next_at s k)))
                               (record { ok = true; items = r.count; conditional = true; depth = c.depth; end = c.end }))

@@ -57,21 +57,21 @@ use Rattle.sheets.proofs.Theorems.{fields_read, sheets_read, sheet_given}
 
 module _ (kinds : List ℕ) (Ts : List Table) (X : ℕ) (o : OfAttributes (family Ts)) (inside : X ⊆ union (family Ts))
   where
-    pub request-2-some-choice : (cs : List ℕ) × StandFor Ts (kept_sets Ts X) cs
-    request-2-some-choice = (union_of_choices kinds Ts X o inside).some_choice
+    pub request_2_some_choice : (cs : List ℕ) × StandFor Ts (kept_sets Ts X) cs
+    request_2_some_choice = (union_of_choices kinds Ts X o inside).some_choice
 
-    pub request-2-of-kept : (row : Row) → InPart kinds Ts X row ↔ InSomeChoice kinds Ts (kept_sets Ts X) X row
-    request-2-of-kept = (union_of_choices kinds Ts X o inside).of_kept
+    pub request_2_of_kept : (row : Row) → InPart kinds Ts X row ↔ InSomeChoice kinds Ts (kept_sets Ts X) X row
+    request_2_of_kept = (union_of_choices kinds Ts X o inside).of_kept
 
-    pub request-2-node : (ms : List Step) → Complete (NodePermits X) (family Ts) ms → (row : Row)
+    pub request_2_node : (ms : List Step) → Complete (NodePermits X) (family Ts) ms → (row : Row)
         → (InUnionJoin kinds Ts (leaves (family Ts) ms) X row ↔ InPart kinds Ts X row) × (InSomeChoice kinds Ts
         (leaves (family Ts) ms) X row ↔ InPart kinds Ts X row)
-    request-2-node = (union_of_choices kinds Ts X o inside).node
+    request_2_node = (union_of_choices kinds Ts X o inside).node
 
-    pub request-2-cover : (ms : List Step) → Complete (CoverPermits X) (family Ts) ms → (row : Row)
+    pub request_2_cover : (ms : List Step) → Complete (CoverPermits X) (family Ts) ms → (row : Row)
         → (InUnionJoin kinds Ts (leaves (family Ts) ms) X row ↔ InPart kinds Ts X row) × (InSomeChoice kinds Ts
         (leaves (family Ts) ms) X row ↔ InPart kinds Ts X row)
-    request-2-cover = (union_of_choices kinds Ts X o inside).cover
+    request_2_cover = (union_of_choices kinds Ts X o inside).cover
 
 module _ (kinds : List ℕ) (Ts : List Table) (X : ℕ) (o : OfAttributes (family Ts)) (inside : X ⊆ union (family Ts))
     (some : (a : ℕ) × (a ∈ X)) where

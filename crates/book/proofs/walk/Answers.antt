@@ -7,7 +7,7 @@ use native.Mathlib.Omega.{arith}
 use Rattle.records.proofs.Reader.{found_after, whole_read_at}
 use Rattle.records.proofs.Checks.{tested}
 use Rattle.book.proofs.Walking.{walking_start, walking_same, walking_inside, walking_rows, walking_six}
-use Rattle.book.proofs.Walking.{walking-stored, walking-full, walking-other, walking_as, walking_unread}
+use Rattle.book.proofs.Walking.{walking_stored, walking_full, walking_other, walking_as, walking_unread}
 use Rattle.book.proofs.Walking.{walking_faulty}
 use Rattle.book.proofs.Declaring.{row_declares_nothing}
 use Rattle.book.proofs.walk.Goals as goal
@@ -75,8 +75,8 @@ loop-r-preserved-after-rows-directory c = let v = c.loop-r.invariant in
     let y = tested c.is_row.ensures c.if-is_row.true in
     let d = row_declares_nothing _ _ y in
     elim c.if-rows-directory.branch [
-      | then-rows-directory x ↦ walking_as (walking-stored v e f y x.if-rows-directory.true) x.directory-is d refl
-      | else-rows-directory x ↦ walking_as (walking-full v e f y x.if-rows-directory.false) x.directory-is d refl
+      | then-rows-directory x ↦ walking_as (walking_stored v e f y x.if-rows-directory.true) x.directory-is d refl
+      | else-rows-directory x ↦ walking_as (walking_full v e f y x.if-rows-directory.false) x.directory-is d refl
     ]
 
 pub loop-r-smaller : goal.loop-r-smaller
@@ -88,4 +88,4 @@ loop-r-preserved c = let v = c.loop-r.invariant in
     let e = sym c.in-Found.ensures in
     let f = sym c.fault-refusal.ensures ∙ c.if-refusal-ne0.false in
     let n = tested c.is_row.ensures c.if-is_row.false in
-    walking_as (walking-other v e f n) refl c.declare-scheme.ensures refl
+    walking_as (walking_other v e f n) refl c.declare-scheme.ensures refl

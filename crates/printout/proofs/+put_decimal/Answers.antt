@@ -1,8 +1,8 @@
--- `printout::put_decimal` meets its contract. The digits of the tenth part, then the last one (`large-written`). The
+-- `printout::put_decimal` meets its contract. The digits of the tenth part, then the last one (`large_written`). The
 -- measure: the number.
 -- Assumes nothing.
 use native.Mathlib.Omega.{arith}
-use Rattle.printout.proofs.Writing.{small_written, tenth-room, last-room, large-written, small_room}
+use Rattle.printout.proofs.Writing.{small_written, tenth_room, last_room, large_written, small_room}
 use Rattle.printout.proofs.+put_decimal.Goals as goal
 
 pub put_byte-requires : goal.put_byte-requires
@@ -18,7 +18,7 @@ returns-then-x-lt10 t c = let r = small_written c.args.x c.args.at _ (omega (ari
 pub put_decimal-end-requires : goal.put_decimal-end-requires
 put_decimal-end-requires t c = (
   omega (arith, c.if-x-lt10.false),
-  tenth-room c.args.x c.args.at c.args.out.now (omega (arith, c.if-x-lt10.false))
+  tenth_room c.args.x c.args.at c.args.out.now (omega (arith, c.if-x-lt10.false))
       c.requires,
 )
 
@@ -26,12 +26,12 @@ pub digit-requires-2 : goal.digit-requires-2
 digit-requires-2 t c = omega arith
 
 pub put_byte-requires-2 : goal.put_byte-requires-2
-put_byte-requires-2 t c = last-room c.args.x c.args.at c.args.out.now (omega (arith, c.if-x-lt10.false))
+put_byte-requires-2 t c = last_room c.args.x c.args.at c.args.out.now (omega (arith, c.if-x-lt10.false))
     c.requires
     c.put_decimal-end.ensures.value c.put_decimal-end.ensures.out_after
 
 pub returns : goal.returns
-returns t c = let r = large-written c.args.x c.args.at _ (omega (arith, c.if-x-lt10.false)) c.requires
+returns t c = let r = large_written c.args.x c.args.at _ (omega (arith, c.if-x-lt10.false)) c.requires
     c.put_decimal-end.ensures.value c.put_decimal-end.ensures.out_after
     c.digit-2.ensures c.put_byte-2.ensures.value c.put_byte-2.ensures.out_after in
     record { value = r.0; out_after = r.1 }

@@ -1,4 +1,4 @@
--- `printout::put_decimal` meets its contract. The digits of the tenth part, then the last one (`large-written`). The
+-- `printout::put_decimal` meets its contract. The digits of the tenth part, then the last one (`large_written`). The
 -- measure: the number.
 -- Assumes nothing.
 use Rattle.printout.proofs.+put_decimal.Given as goal

@@ -2,7 +2,7 @@
 -- written.
 -- Assumes nothing.
 use native.Mathlib.Omega.{arith}
-use Rattle.printout.proofs.Texts.{refusal_none, words-room, line-room, refusal-written}
+use Rattle.printout.proofs.Texts.{refusal_none, words_room, line_room, refusal_written}
 use Rattle.printout.proofs.print_refusal.Goals as goal
 
 pub returns-then-out-n : goal.returns-then-out-n
@@ -11,17 +11,17 @@ returns-then-out-n c = let r = refusal_none c.args.words.now c.args.number c.arg
     record { value = r.0; out_after = r.1 }
 
 pub put_words-at-requires : goal.put_words-at-requires
-put_words-at-requires c = words-room c.args.words.now c.args.number c.args.out.now
+put_words-at-requires c = words_room c.args.words.now c.args.number c.args.out.now
     c.decimal_length.ensures.value (omega (arith, c.if-out-n.false))
 
 pub put_byte-requires : goal.put_byte-requires
-put_byte-requires c = line-room c.args.words.now c.args.number c.args.out.now
+put_byte-requires c = line_room c.args.words.now c.args.number c.args.out.now
     c.decimal_length.ensures.value (omega (arith, c.if-out-n.false))
     c.put_words-at.ensures.value
     c.put_words-at.ensures.out_after
 
 pub returns : goal.returns
-returns c = let r = refusal-written c.args.words.now c.args.number c.args.out.now
+returns c = let r = refusal_written c.args.words.now c.args.number c.args.out.now
     c.decimal_length.ensures.value (omega (arith, c.if-out-n.false))
     c.put_words-at.ensures.value
     c.put_words-at.ensures.out_after c.put_byte.ensures.value c.put_byte.ensures.out_after in

@@ -2,8 +2,8 @@
 -- the cells left.
 -- Assumes nothing.
 use native.Mathlib.Omega.{arith}
-use Rattle.printout.proofs.Rows.{cell_room, mark-room, mark-written, row_end}
-use Rattle.printout.proofs.Writing.{writing_start, writing-length}
+use Rattle.printout.proofs.Rows.{cell_room, mark_room, mark_written, row_end}
+use Rattle.printout.proofs.Writing.{writing_start, writing_length}
 use Rattle.printout.proofs.put_row.Goals as goal
 
 pub loop-i-init : goal.loop-i-init
@@ -14,13 +14,13 @@ put_cell-end-requires c = cell_room c.args.kinds.now c.args.row.now _ c.loop-i-t
     c.args.at c.args.out.now c.loop-i.invariant.0
 
 pub put_byte-end-requires : goal.put_byte-end-requires
-put_byte-end-requires c = mark-room c.args.kinds.now c.args.row.now _ c.loop-i-test.true c.requires.kinds_in_bounds
+put_byte-end-requires c = mark_room c.args.kinds.now c.args.row.now _ c.loop-i-test.true c.requires.kinds_in_bounds
     c.args.at c.args.out.now c.loop-i.invariant.0 c.put_cell-end.ensures.value
     c.put_cell-end.ensures.out_after
 
 pub loop-i-preserved : goal.loop-i-preserved
 loop-i-preserved c = (
-  mark-written c.args.kinds.now c.args.row.now _ c.loop-i-test.true
+  mark_written c.args.kinds.now c.args.row.now _ c.loop-i-test.true
       c.requires.kinds_in_bounds c.args.at c.args.out.now c.loop-i.invariant.0
       c.put_cell-end.ensures.value c.put_cell-end.ensures.out_after c.mark.ensures
       c.put_byte-end.ensures.value c.put_byte-end.ensures.out_after,
@@ -28,7 +28,7 @@ loop-i-preserved c = (
 )
 
 pub shape_of-out : goal.shape_of-out
-shape_of-out c = writing-length c.args.at _ c.args.out.now c.loop-i.invariant.0
+shape_of-out c = writing_length c.args.at _ c.args.out.now c.loop-i.invariant.0
 
 pub returns : goal.returns
 returns c = let r = row_end c.args.kinds.now c.args.row.now _ c.args.at c.args.out.now

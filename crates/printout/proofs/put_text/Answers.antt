@@ -3,7 +3,7 @@
 -- Assumes nothing.
 use mathlib.Core.Path.{refl}
 use native.Mathlib.Omega.{arith}
-use Rattle.printout.proofs.Writing.{writing_start, writing-length, text_room, text_next, text_end}
+use Rattle.printout.proofs.Writing.{writing_start, writing_length, text_room, text_next, text_end}
 use Rattle.printout.proofs.put_text.Goals as goal
 
 pub loop-i-init : goal.loop-i-init
@@ -22,7 +22,7 @@ loop-i-preserved c = (
 )
 
 pub shape_of-out : goal.shape_of-out
-shape_of-out c = writing-length c.args.at c.args.text.now c.args.out.now c.loop-i.invariant.0
+shape_of-out c = writing_length c.args.at c.args.text.now c.args.out.now c.loop-i.invariant.0
 
 pub returns : goal.returns
 returns c = let r = text_end c.args.at c.args.text.now c.args.out.now c.loop-i.invariant.0

@@ -4,7 +4,7 @@
 use mathlib.Core.Path.{sym}
 use native.Mathlib.Nat.{le_of_eq}
 use native.Mathlib.Omega.{arith}
-use Rattle.printout.proofs.Rows.{rows_fit_start, rows-fit-no, rows-fit-next, rows_fit_end}
+use Rattle.printout.proofs.Rows.{rows_fit_start, rows_fit_no, rows_fit_next, rows_fit_end}
 use Rattle.printout.proofs.Rows.{next_inside, part_length}
 use Rattle.printout.proofs.rows_fit.Goals as goal
 
@@ -20,11 +20,11 @@ row_fits-requires c = le_of_eq (sym (part_length _ c.loop-left.from c.args.cells
     c.loop-left-test.true c.loop-left.invariant.inside))
 
 pub returns-then-not-row_fits : goal.returns-then-not-row_fits
-returns-then-not-row_fits c = rows-fit-no c.args.kinds.now c.args.cells.now c.loop-left.invariant
+returns-then-not-row_fits c = rows_fit_no c.args.kinds.now c.args.cells.now c.loop-left.invariant
     c.loop-left-test.true c.row_fits.ensures c.if-not-row_fits.true
 
 pub loop-left-preserved : goal.loop-left-preserved
-loop-left-preserved c = rows-fit-next c.args.kinds.now c.args.cells.now c.loop-left.invariant
+loop-left-preserved c = rows_fit_next c.args.kinds.now c.args.cells.now c.loop-left.invariant
     c.loop-left-test.true c.row_fits.ensures c.if-not-row_fits.false
 
 pub returns : goal.returns

@@ -3,8 +3,8 @@
 use Prim.Native.Nat.{◌-◌}
 use mathlib.Core.Logic.{⊎_elim}
 use borrow.Author.Rules.{rules}
-use Rattle.query.proofs.Loops.{variables_start, variable_not_named, variable-found}
-use Rattle.query.proofs.Loops.{variable-connected, variables_end}
+use Rattle.query.proofs.Loops.{variables_start, variable_not_named, variable_found}
+use Rattle.query.proofs.Loops.{variable_connected, variables_end}
 use Rattle.query.proofs.some_unconnected.Goals as goal
 use Rattle.query.proofs.some_unconnected.Goals.{then-not-is_empty+else-none_contains, else-not-is_empty}
 
@@ -12,13 +12,13 @@ pub loop-v-init : goal.loop-v-init
 loop-v-init c = variables_start _ _ _ (search rules)
 
 pub returns-then-none_contains : goal.returns-then-none_contains
-returns-then-none_contains c = search (rules, variable-found)
+returns-then-none_contains c = search (rules, variable_found)
 
 pub loop-v-preserved : goal.loop-v-preserved
 loop-v-preserved c = elim c.if-not-is_empty.branch [
-    | then-not-is_empty+else-none_contains w ↦ search (rules, variable-connected)
-    | else-not-is_empty w ↦ search (rules, variable_not_named)
-  ]
+  | then-not-is_empty+else-none_contains w ↦ search (rules, variable_connected)
+  | else-not-is_empty w ↦ search (rules, variable_not_named)
+]
 
 pub returns : goal.returns
 returns c = search (rules, variables_end)

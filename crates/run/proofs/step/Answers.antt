@@ -1,6 +1,6 @@
 -- `run::step` meets its contract: a refusal, or an answer that is fit to print (`Returns`).
 -- Assumes nothing.
-use Rattle.run.proofs.Returns.{query_ends, query-asked, asked-ends, asked-goes-on}
+use Rattle.run.proofs.Returns.{query_ends, query_asked, asked_ends, asked_goes_on}
 use Rattle.answer.proofs.Returning.{number_is, maximal_long}
 use native.Mathlib.Omega.{arith}
 use mathlib.Core.Path.{sym, ◌∙◌}
@@ -24,7 +24,7 @@ answer_asked-a-requires c = (
   (
     (
       number_is c.args.bytes.now c.requires.book_value.0 ∙ c.requires.bytes_value.0,
-      query-asked
+      query_asked
           c.args.bytes.now c.args.query.now c.args.serial c.args.space.now c.args.out.now c.requires.bytes_value.1 c.requires.bytes_value.2 c.requires.book_value.0 c.requires.bytes_value.0
           c.first_object_sets-maximal.ensures c.read-q.ensures c.if-q-ne0.false,
     ),
@@ -36,7 +36,7 @@ pub refuse-requires-then-a-ne0 : goal.refuse-requires-then-a-ne0
 refuse-requires-then-a-ne0 c = c.requires.bytes_value.2
 
 pub returns-then-a-ne0 : goal.returns-then-a-ne0
-returns-then-a-ne0 c = let r = asked-ends c.args.bytes.now c.args.query.now c.args.serial c.args.space.now
+returns-then-a-ne0 c = let r = asked_ends c.args.bytes.now c.args.query.now c.args.serial c.args.space.now
     c.args.out.now c.requires.bytes_value.1 c.requires.bytes_value.2 c.requires.book_value.0 c.requires.bytes_value.0
     c.first_object_sets-maximal.ensures c.read-q.ensures c.if-q-ne0.false c.answer_asked-a.ensures.answers_asked c.answer_asked-a.ensures.fills_asked
     c.if-a-ne0.true c.refuse-then-a-ne0.ensures.value c.refuse-then-a-ne0.ensures.out_after in record { value = r.0; space_after = r.1.0; out_after = r.1.1 }
@@ -45,7 +45,7 @@ pub kinds_of-k-requires : goal.kinds_of-k-requires
 kinds_of-k-requires c = record {
   bytes = c.args.bytes.now;
   is_read = c.requires.book_value.0;
-  askable = query-asked c.args.bytes.now c.args.query.now c.args.serial c.args.space.now c.args.out.now c.requires.bytes_value.1 c.requires.bytes_value.2 c.requires.book_value.0 c.requires.bytes_value.0 c.first_object_sets-maximal.ensures c.read-q.ensures c.if-q-ne0.false;
+  askable = query_asked c.args.bytes.now c.args.query.now c.args.serial c.args.space.now c.args.out.now c.requires.bytes_value.1 c.requires.bytes_value.2 c.requires.book_value.0 c.requires.bytes_value.0 c.first_object_sets-maximal.ensures c.read-q.ensures c.if-q-ne0.false;
 }
 
 pub slice_bounds-kinds-end : goal.slice_bounds-kinds-end
@@ -59,4 +59,4 @@ slice_bounds-print_answer-end c = sym (length-take-le c.kinds_of-k.result.items 
 )))
 
 pub returns : goal.returns
-returns c = let r = asked-goes-on c.before.args.bytes.now c.before.args.query.now c.before.args.serial c.before.args.space.now c.before.args.out.now c.before.requires.1.1.1 c.before.requires.1.1.2 c.before.requires.0.0 c.before.requires.1.1.0 c.first_object_sets-maximal.ensures c.read-q.ensures c.if-q-ne0.false c.answer_asked-a.ensures.answers_asked c.answer_asked-a.ensures.fills_asked c.if-a-ne0.false (omega (arith, c.before.ranges)) c.kinds_of-k.ensures c.length_of.ensures c.print_answer-p.ensures.value c.print_answer-p.ensures.out_after in record { value = r.0; space_after = r.1.0; out_after = r.1.1 }
+returns c = let r = asked_goes_on c.before.args.bytes.now c.before.args.query.now c.before.args.serial c.before.args.space.now c.before.args.out.now c.before.requires.1.1.1 c.before.requires.1.1.2 c.before.requires.0.0 c.before.requires.1.1.0 c.first_object_sets-maximal.ensures c.read-q.ensures c.if-q-ne0.false c.answer_asked-a.ensures.answers_asked c.answer_asked-a.ensures.fills_asked c.if-a-ne0.false (omega (arith, c.before.ranges)) c.kinds_of-k.ensures c.length_of.ensures c.print_answer-p.ensures.value c.print_answer-p.ensures.out_after in record { value = r.0; space_after = r.1.0; out_after = r.1.1 }

@@ -9,7 +9,7 @@ use Rattle.sets.specs.Sets.{OBJECTS}
 use Rattle.scheme.specs.Growing.{rounds, grown}
 use Rattle.scheme.specs.OfScheme.{pairs}
 use Rattle.scheme.proofs.Growing.{not_joined}
-use Rattle.scheme.proofs.Repeating.{repeating-start, repeating-next, repeating-less, repeating-end}
+use Rattle.scheme.proofs.Repeating.{repeating_start, repeating_next, repeating_less, repeating_end}
 use Rattle.scheme.proofs.grow.Goals as goal
 
 pub round-next-requires : goal.round-next-requires
@@ -19,7 +19,7 @@ pub loop-next-init : goal.loop-next-init
 unfolding grown
 loop-next-init c = let a = c.args in
     let D = pairs a.n a.left.now a.right.now in (
-      repeating-start _ _ _ c.single_object-held.type_inv c.round-next.type_inv c.round-next.ensures
+      repeating_start _ _ _ c.single_object-held.type_inv c.round-next.type_inv c.round-next.ensures
           (ap (rounds D a.sets.now a.objects (2 ^ OBJECTS)) c.single_object-held.ensures),
       not_joined D a.sets.now a.objects _ c.round-next.ensures c.attributes_of-before.ensures,
     )
@@ -28,15 +28,15 @@ pub round-next-requires-in-loop-next : goal.round-next-requires-in-loop-next
 round-next-requires-in-loop-next c = (c.requires.0, c.requires.1, λ y. c.loop-next.invariant.1)
 
 pub loop-next-smaller : goal.loop-next-smaller
-loop-next-smaller c = repeating-less _ _ _ c.loop-next.invariant.0 c.loop-next-test.true
+loop-next-smaller c = repeating_less _ _ _ c.loop-next.invariant.0 c.loop-next-test.true
 
 pub loop-next-preserved : goal.loop-next-preserved
 loop-next-preserved c = let a = c.args in (
-  repeating-next _ _ _ c.loop-next.invariant.0 _ c.loop-next-test.true
+  repeating_next _ _ _ c.loop-next.invariant.0 _ c.loop-next-test.true
       c.round-next-in-loop-next.type_inv c.round-next-in-loop-next.ensures,
   not_joined (pairs a.n a.left.now a.right.now) a.sets.now a.objects _ c.round-next-in-loop-next.ensures
       c.attributes_of-before-in-loop-next.ensures,
 )
 
 pub returns : goal.returns
-returns c = repeating-end _ _ _ c.loop-next.invariant.0 c.loop-next-test.false
+returns c = repeating_end _ _ _ c.loop-next.invariant.0 c.loop-next-test.false

@@ -2,7 +2,7 @@
 -- (`HoldingBelow`). The measure: the objects left. Assumes nothing.
 use mathlib.Core.Path.{sym, ◌∙◌}
 use Rattle.sets.proofs.Sets.{yes_has, no_has}
-use Rattle.scheme.proofs.Loops.{holding_start, holding_held, holding-joined, holding-apart}
+use Rattle.scheme.proofs.Loops.{holding_start, holding_held, holding_joined, holding_apart}
 use Rattle.scheme.proofs.Loops.{holding_other, holding_end}
 use Rattle.scheme.proofs.round.Goals as goal
 use Rattle.scheme.proofs.round.Goals.{then-has_object, else-has_object+then-has_object-2+then-is_determined, else-has_object+then-has_object-2+else-is_determined, else-has_object+else-has_object-2}
@@ -23,11 +23,11 @@ pub loop-k-preserved : goal.loop-k-preserved
 loop-k-preserved c = elim c.if-has_object.branch [
   | then-has_object w ↦ holding_held c.loop-k.invariant c.loop-k-test.true c.if-has_object.next
       (sym c.has_object.ensures ∙ w.if-has_object.true) (w.next-is ∙ w.insert_object-next.ensures)
-  | else-has_object+then-has_object-2+then-is_determined w ↦ holding-joined c.loop-k.invariant c.loop-k-test.true
+  | else-has_object+then-has_object-2+then-is_determined w ↦ holding_joined c.loop-k.invariant c.loop-k-test.true
       c.attributes_of-attributes.result c.attributes_of-attributes.ensures w.is_determined.result
       w.is_determined.ensures (sym w.has_object-else-has_object.ensures ∙ w.if-has_object-2.true)
       c.if-has_object.next w.if-is_determined.true (w.next-is ∙ w.insert_object-next-then-is_determined.ensures)
-  | else-has_object+then-has_object-2+else-is_determined w ↦ holding-apart c.loop-k.invariant c.loop-k-test.true
+  | else-has_object+then-has_object-2+else-is_determined w ↦ holding_apart c.loop-k.invariant c.loop-k-test.true
       c.attributes_of-attributes.result c.attributes_of-attributes.ensures w.is_determined.result
       w.is_determined.ensures (sym w.has_object-else-has_object.ensures ∙ w.if-has_object-2.true)
       c.if-has_object.next (sym c.has_object.ensures ∙ w.if-has_object.false) w.if-is_determined.false w.next-is

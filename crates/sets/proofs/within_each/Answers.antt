@@ -22,9 +22,9 @@ returns-then-not-has c = sym (each_failed c.loop-k.invariant (omega (arith, c.lo
 
 pub loop-k-preserved : goal.loop-k-preserved
 loop-k-preserved c = each_next c.loop-k.invariant (omega (arith, c.loop-k-test.true)) (elim c.if-has.branch [
-    | then-has+else-not-has w ↦ λ i. yes_has _ _ (sym w.has-then-has.ensures ∙ w.if-not-has.false)
-    | else-has w ↦ λ i. absurd (in_out i (no_has _ _ (sym c.has.ensures ∙ w.if-has.false)))
-  ])
+  | then-has+else-not-has w ↦ λ i. yes_has _ _ (sym w.has-then-has.ensures ∙ w.if-not-has.false)
+  | else-has w ↦ λ i. absurd (in_out i (no_has _ _ (sym c.has.ensures ∙ w.if-has.false)))
+])
 
 pub returns : goal.returns
 returns c = sym (each_end c.loop-k.invariant (omega (arith, c.loop-k-test.false)))

@@ -3,7 +3,7 @@
 -- Assumes nothing.
 use native.Mathlib.Omega.{arith}
 use Rattle.sheets.proofs.Putting.{blank_line_room, blank_line_written, blank_lines_written}
-use Rattle.printout.proofs.Writing.{writing_start, writing-length}
+use Rattle.printout.proofs.Writing.{writing_start, writing_length}
 use Rattle.sheets.proofs.put_blank_lines.Goals as goal
 
 pub loop-left-init : goal.loop-left-init
@@ -21,7 +21,7 @@ loop-left-preserved c = blank_line_written c.args.at c.args.n c.args.out.now c.l
     c.loop-left-test.true c.end_line-end.ensures.value c.end_line-end.ensures.out_after
 
 pub shape_of-out : goal.shape_of-out
-shape_of-out c = writing-length c.args.at _ c.args.out.now c.loop-left.invariant
+shape_of-out c = writing_length c.args.at _ c.args.out.now c.loop-left.invariant
 
 pub returns : goal.returns
 returns c = let r = blank_lines_written c.args.at c.args.n c.args.out.now c.loop-left.left c.loop-left.invariant (omega

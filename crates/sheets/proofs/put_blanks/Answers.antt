@@ -2,7 +2,7 @@
 -- measure: the blanks left.
 -- Assumes nothing.
 use native.Mathlib.Omega.{arith}
-use Rattle.printout.proofs.Writing.{writing_start, writing-length}
+use Rattle.printout.proofs.Writing.{writing_start, writing_length}
 use Rattle.sheets.proofs.Putting.{blank_room, blank_written, blanks_written}
 use Rattle.sheets.proofs.put_blanks.Goals as goal
 
@@ -18,7 +18,7 @@ loop-left-preserved c = blank_written c.args.at c.args.n c.args.out.now c.loop-l
     c.loop-left-test.true c.put_byte-end.ensures.value c.put_byte-end.ensures.out_after
 
 pub shape_of-out : goal.shape_of-out
-shape_of-out c = writing-length c.args.at _ c.args.out.now c.loop-left.invariant
+shape_of-out c = writing_length c.args.at _ c.args.out.now c.loop-left.invariant
 
 pub returns : goal.returns
 returns c = let r = blanks_written c.args.at c.args.n c.args.out.now c.loop-left.left c.loop-left.invariant (omega

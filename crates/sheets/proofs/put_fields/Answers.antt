@@ -2,8 +2,8 @@
 -- each. The measure: the cells left.
 -- Assumes nothing.
 use native.Mathlib.Omega.{arith}
-use Rattle.sheets.proofs.Putting.{field_room, fields-next, fields_end}
-use Rattle.printout.proofs.Writing.{writing_start, writing-length}
+use Rattle.sheets.proofs.Putting.{field_room, fields_next, fields_end}
+use Rattle.printout.proofs.Writing.{writing_start, writing_length}
 use Rattle.sheets.proofs.put_fields.Goals as goal
 
 pub loop-i-init : goal.loop-i-init
@@ -15,7 +15,7 @@ put_field-end-requires c = field_room c.args.kinds.now c.args.row.now c.args.at 
 
 pub loop-i-preserved : goal.loop-i-preserved
 loop-i-preserved c = (
-  fields-next c.args.kinds.now c.args.row.now c.args.at c.args.out.now _
+  fields_next c.args.kinds.now c.args.row.now c.args.at c.args.out.now _
       c.loop-i.invariant.0 c.loop-i-test.true c.requires.kinds_in_bounds c.put_field-end.ensures.value
       c.put_field-end.ensures.out_after,
   (
@@ -29,7 +29,7 @@ loop-i-preserved c = (
 )
 
 pub shape_of-out : goal.shape_of-out
-shape_of-out c = writing-length c.args.at _ c.args.out.now c.loop-i.invariant.0
+shape_of-out c = writing_length c.args.at _ c.args.out.now c.loop-i.invariant.0
 
 pub returns : goal.returns
 returns c = let (p, w) = fields_end c.args.kinds.now c.args.row.now c.args.at c.args.out.now _ c.loop-i.invariant.0

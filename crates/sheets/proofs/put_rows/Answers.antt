@@ -6,7 +6,7 @@ use native.Mathlib.Nat.{le_of_eq}
 use native.Mathlib.Omega.{arith}
 use mathlib.Core.Path.{sym}
 use Rattle.sheets.proofs.Putting.{row_room, row_written, rows_written}
-use Rattle.printout.proofs.Writing.{writing_start, writing-length}
+use Rattle.printout.proofs.Writing.{writing_start, writing_length}
 use Rattle.printout.proofs.Rows.{next_inside, rest_inside, part_length}
 use Rattle.sheets.proofs.put_rows.Goals as goal
 
@@ -38,7 +38,7 @@ loop-left-preserved c = (
 )
 
 pub shape_of-out : goal.shape_of-out
-shape_of-out c = writing-length c.args.at _ c.args.out.now c.loop-left.invariant.0
+shape_of-out c = writing_length c.args.at _ c.args.out.now c.loop-left.invariant.0
 
 pub returns : goal.returns
 returns c = let r = rows_written c.args.kinds.now c.args.cells.now c.loop-left.from c.loop-left.left

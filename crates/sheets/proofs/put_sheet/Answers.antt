@@ -1,8 +1,8 @@
 -- `sheets::put_sheet` meets its contract: the head line, the rows, the blank lines and the foot line (`Whole`).
 -- Assumes nothing.
 use native.Mathlib.Omega.{arith}
-use Rattle.sheets.proofs.Whole.{head_room, lines-room, blank_room, foot-room, sheet-written}
-use Rattle.sheets.proofs.Shape.{part-inside, number_few}
+use Rattle.sheets.proofs.Whole.{head_room, lines_room, blank_room, foot_room, sheet_written}
+use Rattle.sheets.proofs.Shape.{part_inside, number_few}
 use Rattle.sheets.proofs.Rows.{first_inside}
 use Rattle.sheets.proofs.put_sheet.Goals as goal
 
@@ -23,7 +23,7 @@ overflow_sub-rows c = omega (
 pub overflow_mul-from : goal.overflow_mul-from
 overflow_mul-from c = omega (
   arith,
-  part-inside c.args.rows c.args.kinds.now c.args.cells.now c.args.number c.requires.fit_to_print c.requires.le_number.0
+  part_inside c.args.rows c.args.kinds.now c.args.cells.now c.args.number c.requires.fit_to_print c.requires.le_number.0
       c.requires.le_number.1 _ c.shown-n.ensures,
 )
 
@@ -39,10 +39,10 @@ pub put_rows-lines-requires : goal.put_rows-lines-requires
 put_rows-lines-requires c = record {
   kinds_len_bound = (
     c.requires.fit_to_print.few_items,
-    part-inside c.args.rows c.args.kinds.now c.args.cells.now
+    part_inside c.args.rows c.args.kinds.now c.args.cells.now
         c.args.number c.requires.fit_to_print c.requires.le_number.0 c.requires.le_number.1 _ c.shown-n.ensures,
   );
-  cells_in_bounds = lines-room c.args.serial c.args.rows c.args.kinds.now c.args.cells.now c.args.number c.args.out.now
+  cells_in_bounds = lines_room c.args.serial c.args.rows c.args.kinds.now c.args.cells.now c.args.number c.args.out.now
       (omega arith) c.requires.fit_to_print c.requires.le_number.0 c.requires.le_number.1
       c.requires.in_bounds c.shown-n.ensures c.put_head-head.ensures.value c.put_head-head.ensures.out_after;
 }
@@ -57,7 +57,7 @@ pub put_foot-requires : goal.put_foot-requires
 put_foot-requires c = record {
   number_bound = number_few c.args.rows c.args.kinds.now c.args.cells.now c.args.number c.requires.fit_to_print
       c.requires.le_number.0 c.requires.le_number.1;
-  number_in_bounds = foot-room c.args.serial c.args.rows c.args.kinds.now c.args.cells.now c.args.number c.args.out.now
+  number_in_bounds = foot_room c.args.serial c.args.rows c.args.kinds.now c.args.cells.now c.args.number c.args.out.now
       (omega
       arith) c.requires.fit_to_print c.requires.le_number.0 c.requires.le_number.1 c.requires.in_bounds
       c.shown-n.ensures
@@ -67,7 +67,7 @@ put_foot-requires c = record {
 }
 
 pub returns : goal.returns
-returns c = sheet-written c.args.serial c.args.rows c.args.kinds.now c.args.cells.now c.args.number c.args.out.now
+returns c = sheet_written c.args.serial c.args.rows c.args.kinds.now c.args.cells.now c.args.number c.args.out.now
     (omega arith) c.requires.fit_to_print c.requires.le_number.0 c.requires.le_number.1
     c.requires.in_bounds c.shown-n.ensures c.put_head-head.ensures.value c.put_head-head.ensures.out_after
     c.put_rows-lines.ensures.value c.put_rows-lines.ensures.out_after c.put_blank_lines-foot.ensures.value

@@ -1,6 +1,6 @@
--- `text::item` meets its contract. Its name ends where the run of capital letters does (`item-is`).
+-- `text::item` meets its contract. Its name ends where the run of capital letters does (`item_is`).
 -- Assumes nothing.
-use Rattle.text.proofs.Marks.{item_none, item_long, item-goes, item-is}
+use Rattle.text.proofs.Marks.{item_none, item_long, item_goes, item_is}
 use borrow.Author.Rules.{rules}
 use Rattle.text.proofs.item.Goals as goal
 
@@ -11,7 +11,7 @@ pub returns-then-end-from-gt12 : goal.returns-then-end-from-gt12
 returns-then-end-from-gt12 c = search (rules, item_long)
 
 pub returns-then-goes_on : goal.returns-then-goes_on
-returns-then-goes_on c = search (rules, item-goes)
+returns-then-goes_on c = search (rules, item_goes)
 
 pub returns : goal.returns
-returns c = search (rules, item-is)
+returns c = search (rules, item_is)

@@ -1,5 +1,5 @@
-use Rattle.text.proofs.Listing.{second-place, more_same, comma-within, going_next}
-use Rattle.text.proofs.Listing.{going_start, going-long, going-fails, mid-within, first_room, going-last}
+use Rattle.text.proofs.Listing.{second_place, more_same, comma_within, going_next}
+use Rattle.text.proofs.Listing.{going_start, going_long, going_fails, mid_within, first_room, going_last}
 use native.Mathlib.Omega.{arith}
 use Prim.Native.Nat.{◌-◌}
 use mathlib.Core.Path.{refl}
@@ -12,28 +12,28 @@ pub token_at-t-requires : goal.token_at-t-requires
 token_at-t-requires c = c.loop-letter.invariant.inside
 
 pub shape_of-out-in_default : goal.shape_of-out-in_default
-shape_of-out-in_default c = going-long _ _ _ c.loop-letter.invariant c.requires.1
+shape_of-out-in_default c = going_long _ _ _ c.loop-letter.invariant c.requires.1
 
 pub returns-in_default : goal.returns-in_default
-returns-in_default c = going-fails _ _ _ c.loop-letter.invariant c.requires.1 _ c.token_at-t.ensures c.no_items.ensures c.in_default.keys2
+returns-in_default c = going_fails _ _ _ c.loop-letter.invariant c.requires.1 _ c.token_at-t.ensures c.no_items.ensures c.in_default.keys2
 
 pub put-place-requires : goal.put-place-requires
 put-place-requires c = first_room _ _ _ c.loop-letter.invariant c.requires.1 _ c.token_at-t.ensures _ _ _ c.t-1.given.1
 
 pub put-requires : goal.put-requires
-put-requires c = second-place _ _ _ c.loop-letter.invariant c.requires.1 _ c.token_at-t.ensures _ _ _ c.t-1.given.1 _ c.put-place.ensures.out_after c.put-place.ensures.value
+put-requires c = second_place _ _ _ c.loop-letter.invariant c.requires.1 _ c.token_at-t.ensures _ _ _ c.t-1.given.1 _ c.put-place.ensures.out_after c.put-place.ensures.value
 
 pub after-next-requires : goal.after-next-requires
-after-next-requires c = (mid-within _ _ _ c.loop-letter.invariant c.requires.1 _ c.token_at-t.ensures _ _ _ c.t-1.given.1).inside
+after-next-requires c = (mid_within _ _ _ c.loop-letter.invariant c.requires.1 _ c.token_at-t.ensures _ _ _ c.t-1.given.1).inside
 
 pub shape_of-out-then-next-eq0 : goal.shape_of-out-then-next-eq0
 shape_of-out-then-next-eq0 c = more_same _ _ _ c.loop-letter.invariant c.requires.1 _ c.token_at-t.ensures _ _ _ c.t-1.given.1 c.wide.ensures.0 c.put-place.ensures.out_after c.put-place.ensures.value c.put.ensures.out_after
 
 pub returns-then-next-eq0 : goal.returns-then-next-eq0
-returns-then-next-eq0 c = going-last _ _ _ c.loop-letter.invariant c.requires.1 _ c.token_at-t.ensures _ _ _ c.t-1.given.1 _ c.after-next.ensures c.wide.ensures.0 c.put-place.ensures.out_after c.put-place.ensures.value c.put.ensures.out_after refl c.if-next-eq0.true
+returns-then-next-eq0 c = going_last _ _ _ c.loop-letter.invariant c.requires.1 _ c.token_at-t.ensures _ _ _ c.t-1.given.1 _ c.after-next.ensures c.wide.ensures.0 c.put-place.ensures.out_after c.put-place.ensures.value c.put.ensures.out_after refl c.if-next-eq0.true
 
 pub loop-letter-smaller : goal.loop-letter-smaller
-loop-letter-smaller c = omega (arith, (mid-within _ _ _ c.loop-letter.invariant c.requires.1 _ c.token_at-t.ensures _ _ _ c.t-1.given.1).after, (comma-within _ _ _ c.loop-letter.invariant c.requires.1 _ c.token_at-t.ensures _ _ _ c.t-1.given.1 _ c.after-next.ensures c.if-next-eq0.false).after, (comma-within _ _ _ c.loop-letter.invariant c.requires.1 _ c.token_at-t.ensures _ _ _ c.t-1.given.1 _ c.after-next.ensures c.if-next-eq0.false).inside)
+loop-letter-smaller c = omega (arith, (mid_within _ _ _ c.loop-letter.invariant c.requires.1 _ c.token_at-t.ensures _ _ _ c.t-1.given.1).after, (comma_within _ _ _ c.loop-letter.invariant c.requires.1 _ c.token_at-t.ensures _ _ _ c.t-1.given.1 _ c.after-next.ensures c.if-next-eq0.false).after, (comma_within _ _ _ c.loop-letter.invariant c.requires.1 _ c.token_at-t.ensures _ _ _ c.t-1.given.1 _ c.after-next.ensures c.if-next-eq0.false).inside)
 
 pub loop-letter-preserved : goal.loop-letter-preserved
 loop-letter-preserved c = going_next _ _ _ c.loop-letter.invariant c.requires.1 _ c.token_at-t.ensures _ _ _ c.t-1.given.1 _ c.after-next.ensures c.if-next-eq0.false c.wide.ensures.0 c.put-place.ensures.out_after c.put-place.ensures.value c.put.ensures.out_after refl

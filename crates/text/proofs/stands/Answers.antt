@@ -1,7 +1,7 @@
 -- `text::stands` meets its contract. The invariant: the rest of the text stands behind what was compared
 -- (`Matching`). The measure: the bytes left.
 -- Assumes nothing.
-use Rattle.text.proofs.Scanning.{no_room, matching_start, matching-next, matching-fails, matching_ends}
+use Rattle.text.proofs.Scanning.{no_room, matching_start, matching_next, matching_fails, matching_ends}
 use Prim.Native.Nat.{◌-◌}
 use borrow.Author.Rules.{rules}
 use Rattle.text.proofs.stands.Goals as goal
@@ -13,10 +13,10 @@ pub loop-i-init : goal.loop-i-init
 loop-i-init c = search (rules, matching_start)
 
 pub returns-then-s-at-2 : goal.returns-then-s-at-2
-returns-then-s-at-2 c = search (rules, matching-fails)
+returns-then-s-at-2 c = search (rules, matching_fails)
 
 pub loop-i-preserved : goal.loop-i-preserved
-loop-i-preserved c = search (rules, matching-next)
+loop-i-preserved c = search (rules, matching_next)
 
 pub returns : goal.returns
 returns c = search (rules, matching_ends)
