@@ -6,12 +6,12 @@ use Rattle.run.proofs.length_of.Goals as goal
 
 pub returns-in-Bytes : goal.returns-in-Bytes
 unfolding bytes_of
-returns-in-Bytes c = ap bytes_of (sym c.p-1.given.1)
+returns-in-Bytes c = ap bytes_of (sym c.in-Bytes.is)
 
 pub returns-in-NoRoom : goal.returns-in-NoRoom
 unfolding bytes_of
-returns-in-NoRoom c = ap bytes_of (sym c.enum_told-1.given.1)
+returns-in-NoRoom c = ap bytes_of (sym c.in-NoRoom.is)
 
 pub returns-in-NotFit : goal.returns-in-NotFit
 unfolding bytes_of
-returns-in-NotFit c = ap bytes_of (sym c.enum_told-in-NotFit-1.given.1)
+returns-in-NotFit c = ap bytes_of (sym c.in-NotFit.is)

@@ -19,18 +19,16 @@ returns-then-q-ne0 c = let r = query_ends c.args.bytes.now c.args.query.now c.ar
     c.first_object_sets-maximal.ensures c.read-q.ensures c.if-q-ne0.true c.refuse.ensures.value c.refuse.ensures.out_after in record { value = r.0; space_after = r.1.0; out_after = r.1.1 }
 
 pub answer_asked-a-requires : goal.answer_asked-a-requires
-answer_asked-a-requires c = (
-  c.requires.book_value,
-  (
-    (
-      number_is c.args.bytes.now c.requires.book_value.0 ∙ c.requires.bytes_value.0,
-      query_asked
-          c.args.bytes.now c.args.query.now c.args.serial c.args.space.now c.args.out.now c.requires.bytes_value.1 c.requires.bytes_value.2 c.requires.book_value.0 c.requires.bytes_value.0
-          c.first_object_sets-maximal.ensures c.read-q.ensures c.if-q-ne0.false,
-    ),
-    c.requires.memory_ready,
-  ),
-)
+answer_asked-a-requires c = record {
+  book_value = c.requires.book_value;
+  refusal_value = (
+    number_is c.args.bytes.now c.requires.book_value.0 ∙ c.requires.bytes_value.0,
+    query_asked c.args.bytes.now c.args.query.now c.args.serial c.args.space.now c.args.out.now
+        c.requires.bytes_value.1 c.requires.bytes_value.2 c.requires.book_value.0 c.requires.bytes_value.0
+        c.first_object_sets-maximal.ensures c.read-q.ensures c.if-q-ne0.false,
+  );
+  memory_ready = c.requires.memory_ready;
+}
 
 pub refuse-requires-then-a-ne0 : goal.refuse-requires-then-a-ne0
 refuse-requires-then-a-ne0 c = c.requires.bytes_value.2
@@ -59,4 +57,4 @@ slice_bounds-print_answer-end c = sym (length-take-le c.kinds_of-k.result.items 
 )))
 
 pub returns : goal.returns
-returns c = let r = asked_goes_on c.before.args.bytes.now c.before.args.query.now c.before.args.serial c.before.args.space.now c.before.args.out.now c.before.requires.1.1.1 c.before.requires.1.1.2 c.before.requires.0.0 c.before.requires.1.1.0 c.first_object_sets-maximal.ensures c.read-q.ensures c.if-q-ne0.false c.answer_asked-a.ensures.answers_asked c.answer_asked-a.ensures.fills_asked c.if-a-ne0.false (omega (arith, c.before.ranges)) c.kinds_of-k.ensures c.length_of.ensures c.print_answer-p.ensures.value c.print_answer-p.ensures.out_after in record { value = r.0; space_after = r.1.0; out_after = r.1.1 }
+returns c = let r = asked_goes_on c.args.bytes.now c.args.query.now c.args.serial c.args.space.now c.args.out.now c.requires.bytes_value.1 c.requires.bytes_value.2 c.requires.book_value.0 c.requires.bytes_value.0 c.first_object_sets-maximal.ensures c.read-q.ensures c.if-q-ne0.false c.answer_asked-a.ensures.answers_asked c.answer_asked-a.ensures.fills_asked c.if-a-ne0.false (omega (arith, c.ranges.serial.fits)) c.kinds_of-k.ensures c.length_of.ensures c.print_answer-p.ensures.value c.print_answer-p.ensures.out_after in record { value = r.0; space_after = r.1.0; out_after = r.1.1 }
