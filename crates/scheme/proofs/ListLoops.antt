@@ -3,6 +3,8 @@
 -- In order: removals, declarations, maximal sets.
 -- Assumes nothing.
 use mathlib.Core.Path.{◌≡◌, refl, sym, ap, ◌∙◌}
+use mathlib.Core.Logic.{⊎_elim}
+use Rattle.sets.proofs.Tests.{yes_or_no}
 use mathlib.Core.Bool.{Bool, true, false}
 use mathlib.Core.List.{List, [], ◌∷◌, ◌++◌, append-nil, append_assoc}
 use Prim.Native.Nat.{ℕ, ◌+◌, ◌≤◌, ◌<◌}
@@ -181,6 +183,14 @@ module _ {l : List ℕ} {i count : ℕ} {out : List ℕ} (fits : length l ≤ MA
     inside = add-one-le h;
     listing = listing_same v.listing (sym (kept_more l i (get_or l i 0) false refl (sym n))) q p;
   }
+
+-- one turn, by what it leaves in each case
+pub kept_turn : {l : List ℕ} {i count m : ℕ} {out o : List ℕ} → length l ≤ MAXIMALS → KeptSoFar l i count out → i < length l
+    → (keeps l i ≡ true → (o ≡ set out count (get_or l i 0)) × (m ≡ count + 1))
+    → (keeps l i ≡ false → (o ≡ out) × (m ≡ count)) → KeptSoFar l (i + 1) m o
+kept_turn {l} {i} fits v h one none =
+    ⊎_elim (λ y. kept_one fits v h (sym y) (one y).0 (one y).1) (λ n. kept_not fits v h (sym n) (none n).0 (none n).1)
+    (yes_or_no (keeps l i))
 
 pub kept_end : {l : List ℕ} {i count : ℕ} {out : List ℕ} → KeptSoFar l i count out → length l ≤ i
     → ◌≡◌ {A = ObjectList} (record { sets = out; count = count }) (listed (maximal l))

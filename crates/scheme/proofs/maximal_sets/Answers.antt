@@ -1,11 +1,10 @@
 -- `scheme::maximal_sets` meets its contract. The invariant: the array has the kept sets of the places before `i`
 -- (`KeptSoFar`). The measure: the sets left. Assumes nothing.
-use mathlib.Core.Path.{refl, sym, ◌∙◌}
+use mathlib.Core.Path.{refl}
 use native.Mathlib.Omega.{arith}
 use Rattle.reduction.specs.Packed.{padded}
-use Rattle.scheme.proofs.ListLoops.{kept_start, kept_room, kept_one, kept_not, kept_end}
+use Rattle.scheme.proofs.ListLoops.{kept_start, kept_room, kept_turn, kept_end}
 use Rattle.scheme.proofs.maximal_sets.Goals as goal
-use Rattle.scheme.proofs.maximal_sets.Goals.{then-is_kept, else-is_kept}
 
 pub loop-i-init : goal.loop-i-init
 unfolding padded
@@ -21,12 +20,9 @@ pub overflow_add-count : goal.overflow_add-count
 overflow_add-count c = omega (arith, kept_room c.requires c.loop-i.invariant c.loop-i-test.true)
 
 pub loop-i-preserved : goal.loop-i-preserved
-loop-i-preserved c = elim c.if-is_kept.branch [
-  | then-is_kept w ↦ kept_one c.requires c.loop-i.invariant c.loop-i-test.true
-      (sym w.if-is_kept.true ∙ c.is_kept.ensures) w.out-is w.count-is
-  | else-is_kept w ↦ kept_not c.requires c.loop-i.invariant c.loop-i-test.true
-      (sym w.if-is_kept.false ∙ c.is_kept.ensures) w.out-is w.count-is
-]
+loop-i-preserved c = kept_turn c.requires c.loop-i.invariant c.loop-i-test.true
+    (λ y. (grind arith, grind arith))
+    (λ n. (grind arith, grind arith))
 
 pub returns : goal.returns
 returns c = kept_end c.loop-i.invariant c.loop-i-test.false

@@ -1,12 +1,11 @@
 -- `scheme::without_removed` meets its contract. The invariant: the array has what is left of the places before `i`
 -- (`RemovingSoFar`). The measure: the places left. Assumes nothing.
-use mathlib.Core.Path.{refl, sym, ◌∙◌}
+use mathlib.Core.Path.{refl}
 use native.Mathlib.Omega.{arith}
 use Rattle.reduction.specs.Packed.{padded}
 use Rattle.scheme.proofs.ListLoops.{removing_start, removing_room, removing_kept, removing_gone}
 use Rattle.scheme.proofs.ListLoops.{removing_end}
 use Rattle.scheme.proofs.without_removed.Goals as goal
-use Rattle.scheme.proofs.without_removed.Goals.{then-not-is_one, else-not-is_one}
 
 pub loop-i-init : goal.loop-i-init
 unfolding padded
@@ -22,12 +21,7 @@ pub overflow_add-count : goal.overflow_add-count
 overflow_add-count c = omega (arith, removing_room c.requires c.loop-i.invariant c.loop-i-test.true)
 
 pub loop-i-preserved : goal.loop-i-preserved
-loop-i-preserved c = elim c.if-not-is_one.branch [
-  | then-not-is_one w ↦ removing_kept c.requires c.loop-i.invariant c.loop-i-test.true
-      (sym c.is_one.ensures ∙ w.if-not-is_one.true) w.out-is w.count-is
-  | else-not-is_one w ↦ removing_gone c.requires c.loop-i.invariant c.loop-i-test.true
-      (sym c.is_one.ensures ∙ w.if-not-is_one.false) w.out-is w.count-is
-]
+loop-i-preserved c = grind (arith, removing_kept, removing_gone)
 
 pub returns : goal.returns
 returns c = removing_end c.loop-i.invariant c.loop-i-test.false
