@@ -2,15 +2,14 @@
 -- In order: letters and digits, every byte, runs, what bytes begin with.
 -- Assumes nothing.
 use mathlib.Core.Path.{◌≡◌, refl, sym, ap, ◌∙◌}
-use mathlib.Core.Bool.{Bool, true, false, not, ◌&&◌, ◌||◌}
-use mathlib.Core.Logic.{◌⊎◌, ⊎_elim}
-use mathlib.Core.List.{List, [], ◌∷◌, ◌++◌, append-nil}
+use mathlib.Core.Bool.{Bool, true, false, ◌&&◌, ◌||◌}
+use mathlib.Core.List.{List, [], ◌∷◌, ◌++◌}
 use Prim.Native.Nat.{ℕ, zero, suc, ◌≤◌, ◌<◌}
 use native.Mathlib.Omega.{arith}
-use borrow.Author.Tests.{leb-true, lt-leb, eqb-true, eq-eqb, not-true}
+use borrow.Author.Tests.{leb-true, lt-leb, eqb-true, eq-eqb}
 use lib.Dec.{leb, eqb}
-use lib.ListN.{length, get_or, take, drop, replicate, length-replicate}
-use Rattle.sets.proofs.Tests.{yes_or_no, yes_no, yes_and, and_yes, or_left, or_right, no_or, no_and}
+use lib.ListN.{length, get_or, drop, replicate, length-replicate}
+use Rattle.sets.proofs.Tests.{yes_no, yes_and, and_yes, or_left, or_right, no_or}
 use Rattle.grammar.specs.Pieces.{is_capital, is_small, is_digit, is_space, is_letter_or_digit, every, last_of}
 use Rattle.grammar.specs.Parser.{run, begins}
 

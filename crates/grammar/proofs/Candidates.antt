@@ -2,21 +2,21 @@
 -- back.
 -- In order: what stands apart; items; constants; words and operators; all pieces; spaces and operators.
 -- Assumes nothing.
-use mathlib.Core.Path.{◌≡◌, refl, sym, ap, ◌∙◌, subst}
+use mathlib.Core.Path.{◌≡◌, refl, ap, subst}
 use mathlib.Core.Bool.{Bool, true, false, not, ◌&&◌, ◌||◌}
-use mathlib.Core.Logic.{◌⊎◌, ⊎_elim}
+use mathlib.Core.Logic.{⊎_elim}
 use mathlib.Core.List.{List, [], ◌∷◌, ◌++◌}
 use mathlib.Core.Option.{Option, none, some}
-use Prim.Native.Nat.{ℕ, zero, suc, ◌≤◌, ◌<◌}
+use Prim.Native.Nat.{ℕ}
 use native.Mathlib.Omega.{arith}
-use borrow.Author.Tests.{eqb-true, not-true, ne_eqb}
+use borrow.Author.Tests.{eqb-true, not-true}
 use lib.Dec.{leb, eqb}
-use lib.ListN.{length, get_or, take, drop}
+use lib.ListN.{length, get_or, take}
 use lib.Seq.{take-append_seam}
-use Rattle.sets.proofs.Tests.{yes_or_no, yes_no, yes_and, yes_or, no_or, no_and, not_yes}
+use Rattle.sets.proofs.Tests.{yes_or_no, yes_no, yes_and, yes_or, no_or, not_yes}
 use Rattle.grammar.specs.Pieces.{is_capital, is_small, is_digit, is_space, is_letter_or_digit, every, last_of, Word, Retrieve}
 use Rattle.grammar.specs.Pieces.{Where, Not, And, Or, Opening, Closing, Comma, Operator, Equal, Unequal, Less, AtMost}
-use Rattle.grammar.specs.Pieces.{Greater, AtLeast, Variable, blank, letter, Item, Constant, number, Piece, word}
+use Rattle.grammar.specs.Pieces.{Greater, AtLeast, Variable, blank, letter, Constant, number, Piece, word}
 use Rattle.grammar.specs.Pieces.{operator, item, constant, word_bytes, operator_bytes, variable_bytes, constant_bytes}
 use Rattle.grammar.specs.Pieces.{bytes_of, is_name, are_digits, is_variable, is_constant, is_piece, apart}
 use Rattle.grammar.specs.Parser.{run, begins, fixed, first_of, item_from, constant_from, candidate}

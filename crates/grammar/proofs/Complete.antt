@@ -2,26 +2,23 @@
 -- it, its parser gives the condition and the position behind it.
 -- In order: what is taken; items; comparisons; conditions.
 -- Assumes nothing.
-use mathlib.Core.Path.{◌≡◌, refl, sym, ap, ◌∙◌, subst}
-use mathlib.Core.Bool.{Bool, true, false, cond}
+use mathlib.Core.Path.{◌≡◌, refl, ap, ◌∙◌, subst}
 use mathlib.Core.List.{List, [], ◌∷◌, ◌++◌}
 use mathlib.Core.Option.{Option, none, some}
-use Prim.Native.Nat.{ℕ, zero, suc, ◌+◌, ◌*◌, max, ◌≤◌, ◌<◌}
+use Prim.Native.Nat.{ℕ, zero, suc, ◌+◌, ◌*◌, max, ◌≤◌}
 use native.Mathlib.Omega.{arith}
 use borrow.Author.Tests.{eq-eqb}
-use lib.Dec.{eqb}
-use lib.ListN.{length, get_or, length-append}
-use Rattle.grammar.specs.Pieces.{Word, And, Or, Not, Comma, Opening, Closing, Where, Retrieve, Operator, Item}
-use Rattle.grammar.specs.Pieces.{Piece, word, operator, item, constant}
-use Rattle.grammar.specs.Grammar.{Condition, compared, negated, both, either, Comparison, Operand, of_item, of_constant}
-use Rattle.grammar.specs.Grammar.{Reading, IsItems, one_item, more_items, IsOperand, item_operand, constant_operand}
-use Rattle.grammar.specs.Grammar.{IsComparison, comparison, IsOr, oneAnd, moreOr, IsAnd, oneNot, moreAnd, IsNot}
-use Rattle.grammar.specs.Grammar.{onePrimary, notMore, IsPrimary, oneComparison, inParentheses, IsText, without}
-use Rattle.grammar.specs.Grammar.{conditional}
-use Rattle.grammar.specs.Parser.{Next, found, at_end, wrong, next_at, word_number, behind, Parsed, failed, parsed, item_of}
-use Rattle.grammar.specs.Parser.{operator_of, operand_of, ◌andThen◌, if_word, items_at, Deep, comparison_at, or_at, or_more}
+use lib.ListN.{length, length-append}
+use Rattle.grammar.specs.Pieces.{Word, And, Or, Not, Comma, Opening, Closing, Operator, Item}
+use Rattle.grammar.specs.Pieces.{Piece, word, operator, item}
+use Rattle.grammar.specs.Grammar.{Condition, compared, negated, both, either, Comparison, Operand}
+use Rattle.grammar.specs.Grammar.{IsItems, one_item, more_items, IsOperand, item_operand, constant_operand}
+use Rattle.grammar.specs.Grammar.{IsComparison, comparison, IsOr, one_and, more_or, one_not, more_and}
+use Rattle.grammar.specs.Grammar.{one_primary, not_more, one_comparison, in_parentheses}
+use Rattle.grammar.specs.Parser.{found, next_at, word_number, behind, Parsed, parsed, item_of}
+use Rattle.grammar.specs.Parser.{operator_of, operand_of, ◌and_then◌, if_word, items_at, Deep, comparison_at, or_at, or_more}
 use Rattle.grammar.specs.Parser.{and_at, and_more, not_at, primary_at, condition_at}
-use Rattle.grammar.proofs.Spelled.{Finds, none_left, one_more, Ahead, finds_ahead, Parts, finds_parts}
+use Rattle.grammar.proofs.Spelled.{Finds, none_left, Ahead, finds_ahead, finds_parts}
 
 -- ---- what is taken
 
@@ -47,7 +44,7 @@ module _ {A : Type 0} {x : Option ℕ} where
 
 module _ {A B : Type 0} {x : Parsed A} where
   pub then_parsed : {a : A} {next : ℕ} (k : A → ℕ → Parsed B) → x ≡ parsed a next → (x and_then k) ≡ k a next
-  unfolding ◌andThen◌
+  unfolding ◌and_then◌
   then_parsed k e = ap (λ (x : Parsed A). x and_then k) e
 
 -- nothing is found nowhere else
@@ -209,8 +206,8 @@ module _ (s : List ℕ) where
 
   -- one case for each rule of the grammar
 
-  one_and : (ps : List Piece) (c : Condition) (d : ℕ) → AndGives ps c d → OrGives ps c d
-  one_and ps c d h = record { some' = h.some'; gives = go }
+  one_and_gives : (ps : List Piece) (c : Condition) (d : ℕ) → AndGives ps c d → OrGives ps c d
+  one_and_gives ps c d h = record { some' = h.some'; gives = go }
     where
       go : (at next n : ℕ) → Finds s at ps next → behind And (next_at s next) ≡ none → 4 * length ps + 4 ≤ n
           → (k : ℕ) × ((n ≤ k + length ps) × (or_at n s at ≡ or_more k s (deep c d) next))
@@ -225,9 +222,9 @@ module _ (s : List ℕ) where
   more_or_step mid next (suc j) qs c e d g h a stop l =
       (j, (refl, or_on j mid (deep c d) a.is (and_whole qs e g h a.mid next j a.rest stop (omega arith))))
 
-  more_or : (ps qs : List Piece) (c e : Condition) (d g : ℕ) → OrGives ps c d → AndGives qs e g
+  more_or_gives : (ps qs : List Piece) (c e : Condition) (d g : ℕ) → OrGives ps c d → AndGives qs e g
       → OrGives (ps ++ word Or ∷ qs) (either c e) (max d g)
-  more_or ps qs c e d g h u = record { some' = omega (arith, length-append ps (word Or ∷ qs)); gives = go }
+  more_or_gives ps qs c e d g h u = record { some' = omega (arith, length-append ps (word Or ∷ qs)); gives = go }
     where
       go : (at next n : ℕ) → Finds s at (ps ++ word Or ∷ qs) next → behind And (next_at s next) ≡ none
           → 4 * length (ps ++ word Or ∷ qs) + 4 ≤ n
@@ -242,8 +239,8 @@ module _ (s : List ℕ) where
           let later = more_or_step p.mid next first.0 qs c e d g u a stop (omega (arith, first.1.0)) in
           (later.0, (omega (arith, first.1.0, later.1.0), first.1.1 ∙ later.1.1))
 
-  one_not : (ps : List Piece) (c : Condition) (d : ℕ) → NotGives ps c d → AndGives ps c d
-  one_not ps c d h = record { some' = h.some'; gives = go }
+  one_not_gives : (ps : List Piece) (c : Condition) (d : ℕ) → NotGives ps c d → AndGives ps c d
+  one_not_gives ps c d h = record { some' = h.some'; gives = go }
     where
       go : (at next n : ℕ) → Finds s at ps next → 4 * length ps + 3 ≤ n
           → (k : ℕ) × ((n ≤ k + length ps) × (and_at n s at ≡ and_more k s (deep c d) next))
@@ -257,9 +254,9 @@ module _ (s : List ℕ) where
   more_and_step mid next (suc j) qs c e d g h a l =
       (j, (refl, and_on j mid (deep c d) a.is (h.gives a.mid next j a.rest (omega arith))))
 
-  more_and : (ps qs : List Piece) (c e : Condition) (d g : ℕ) → AndGives ps c d → NotGives qs e g
+  more_and_gives : (ps qs : List Piece) (c e : Condition) (d g : ℕ) → AndGives ps c d → NotGives qs e g
       → AndGives (ps ++ word And ∷ qs) (both c e) (max d g)
-  more_and ps qs c e d g h u = record { some' = omega (arith, length-append ps (word And ∷ qs)); gives = go }
+  more_and_gives ps qs c e d g h u = record { some' = omega (arith, length-append ps (word And ∷ qs)); gives = go }
     where
       go : (at next n : ℕ) → Finds s at (ps ++ word And ∷ qs) next → 4 * length (ps ++ word And ∷ qs) + 3 ≤ n
           → (k : ℕ) × ((n ≤ k + length (ps ++ word And ∷ qs))
@@ -272,15 +269,15 @@ module _ (s : List ℕ) where
           let later = more_and_step p.mid next first.0 qs c e d g u a (omega (arith, first.1.0)) in
           (later.0, (omega (arith, first.1.0, later.1.0), first.1.1 ∙ later.1.1))
 
-  one_primary : (ps : List Piece) (c : Condition) (d : ℕ) → PrimaryGives ps c d → NotGives ps c d
-  one_primary ps c d h = record { some' = h.some'; gives = go }
+  one_primary_gives : (ps : List Piece) (c : Condition) (d : ℕ) → PrimaryGives ps c d → NotGives ps c d
+  one_primary_gives ps c d h = record { some' = h.some'; gives = go }
     where
       go : (at next n : ℕ) → Finds s at ps next → 4 * length ps + 2 ≤ n → not_at n s at ≡ parsed (deep c d) next
       go at next zero f l = absurd (omega arith)
       go at next (suc n) f l = not_of n at (h.begins at next f) (h.gives at next n f (omega arith))
 
-  not_more : (ps : List Piece) (c : Condition) (d : ℕ) → NotGives ps c d → NotGives (word Not ∷ ps) (negated c) d
-  not_more ps c d h = record { some' = omega arith; gives = go }
+  not_more_gives : (ps : List Piece) (c : Condition) (d : ℕ) → NotGives ps c d → NotGives (word Not ∷ ps) (negated c) d
+  not_more_gives ps c d h = record { some' = omega arith; gives = go }
     where
       go : (at next n : ℕ) → Finds s at (word Not ∷ ps) next → 4 * length (word Not ∷ ps) + 2 ≤ n
           → not_at n s at ≡ parsed (deep (negated c) d) next
@@ -289,8 +286,8 @@ module _ (s : List ℕ) where
           let a = finds_ahead f in
           not_on n at a.is (h.gives a.mid next n a.rest (omega arith))
 
-  one_comparison : (ps : List Piece) (x : Comparison) → IsComparison ps x → PrimaryGives ps (compared x) 0
-  one_comparison ps x t = record { some' = long t; gives = go; begins = λ at next f. comparison_begins t s at next f Not }
+  one_comparison_gives : (ps : List Piece) (x : Comparison) → IsComparison ps x → PrimaryGives ps (compared x) 0
+  one_comparison_gives ps x t = record { some' = long t; gives = go; begins = λ at next f. comparison_begins t s at next f Not }
     where
       long : {ps : List Piece} {x : Comparison} → IsComparison ps x → 1 ≤ length ps
       long (comparison u) = omega arith
@@ -300,9 +297,9 @@ module _ (s : List ℕ) where
       go at next zero f l = absurd (omega arith)
       go at next (suc n) f l = primary_of n at (comparison_begins t s at next f Opening) (comparison_complete t s at next f)
 
-  in_parentheses : (ps : List Piece) (c : Condition) (d : ℕ) → OrGives ps c d
+  in_parentheses_gives : (ps : List Piece) (c : Condition) (d : ℕ) → OrGives ps c d
       → PrimaryGives (word Opening ∷ (ps ++ word Closing ∷ [])) c (suc d)
-  in_parentheses ps c d h = record { some' = omega arith; gives = go; begins = first }
+  in_parentheses_gives ps c d h = record { some' = omega arith; gives = go; begins = first }
     where
       first : (at next : ℕ) → Finds s at (word Opening ∷ (ps ++ word Closing ∷ [])) next
           → behind Not (next_at s at) ≡ none
@@ -328,14 +325,14 @@ module _ (s : List ℕ) where
   or_gives t =
       elim t as (λ ps c d y. OrGives ps c d) (λ ps c d y. AndGives ps c d) (λ ps c d y. NotGives ps c d)
       (λ ps c d y. PrimaryGives ps c d) [
-        | oneAnd {ps = ps} {c = c} {d = d} (t → h) ↦ one_and ps c d h
-        | moreOr {ps = ps} {qs = qs} {c = c} {e = e} {d = d} {f = f} (t → h) (u → k) ↦ more_or ps qs c e d f h k
-        | oneNot {ps = ps} {c = c} {d = d} (t → h) ↦ one_not ps c d h
-        | moreAnd {ps = ps} {qs = qs} {c = c} {e = e} {d = d} {f = f} (t → h) (u → k) ↦ more_and ps qs c e d f h k
-        | onePrimary {ps = ps} {c = c} {d = d} (t → h) ↦ one_primary ps c d h
-        | notMore {ps = ps} {c = c} {d = d} (t → h) ↦ not_more ps c d h
-        | oneComparison {ps = ps} {x = x} t ↦ one_comparison ps x t
-        | inParentheses {ps = ps} {c = c} {d = d} (t → h) ↦ in_parentheses ps c d h
+        | one_and {ps = ps} {c = c} {d = d} (t → h) ↦ one_and_gives ps c d h
+        | more_or {ps = ps} {qs = qs} {c = c} {e = e} {d = d} {f = f} (t → h) (u → k) ↦ more_or_gives ps qs c e d f h k
+        | one_not {ps = ps} {c = c} {d = d} (t → h) ↦ one_not_gives ps c d h
+        | more_and {ps = ps} {qs = qs} {c = c} {e = e} {d = d} {f = f} (t → h) (u → k) ↦ more_and_gives ps qs c e d f h k
+        | one_primary {ps = ps} {c = c} {d = d} (t → h) ↦ one_primary_gives ps c d h
+        | not_more {ps = ps} {c = c} {d = d} (t → h) ↦ not_more_gives ps c d h
+        | one_comparison {ps = ps} {x = x} t ↦ one_comparison_gives ps x t
+        | in_parentheses {ps = ps} {c = c} {d = d} (t → h) ↦ in_parentheses_gives ps c d h
       ]
 
   pub condition_complete : {ps : List Piece} {c : Condition} {d : ℕ} → IsOr ps c d → (at next : ℕ) → Finds s at ps next

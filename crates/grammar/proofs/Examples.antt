@@ -2,16 +2,16 @@
 -- Assumes nothing.
 use mathlib.Core.Path.{◌≡◌, refl}
 use mathlib.Core.List.{List, [], ◌∷◌}
-use mathlib.Core.Option.{Option, none, some}
+use mathlib.Core.Option.{none, some}
 use Prim.Native.Nat.{ℕ}
 use mathlib.Core.Bool.{true, false}
 use Rattle.grammar.specs.Pieces.{is_capital, is_small, is_digit, is_space, is_letter_or_digit, every, last_of, word_bytes}
 use Rattle.grammar.specs.Pieces.{operator_bytes, variable_bytes, constant_bytes, bytes_of, is_name, are_digits, is_variable}
 use Rattle.grammar.specs.Pieces.{is_constant, is_piece, apart, Item, blank, letter, number}
-use Rattle.grammar.specs.Pieces.{Equal, Unequal, Less, AtMost, Greater, AtLeast}
-use Rattle.grammar.specs.Grammar.{Reading, Comparison, compared, negated, both, either, of_item, of_constant}
+use Rattle.grammar.specs.Pieces.{Equal, Less, AtMost}
+use Rattle.grammar.specs.Grammar.{compared, negated, both, either, of_item, of_constant}
 use Rattle.grammar.specs.Parser.{run, begins, fixed, first_of, item_from, constant_from, candidate, stands, checked}
-use Rattle.grammar.specs.Parser.{next_front, next_at, word_number, behind, item_of, operator_of, operand_of, ◌andThen◌}
+use Rattle.grammar.specs.Parser.{next_front, next_at, word_number, behind, item_of, operator_of, operand_of, ◌and_then◌}
 use Rattle.grammar.specs.Parser.{if_word, items_at, comparison_at, or_at, condition_at, whole, conditioned, text_end, head_at}
 use Rattle.grammar.specs.Parser.{parse}
 
@@ -71,7 +71,7 @@ pub request_reads : parse request
           (compared (record { left = trip; by = Equal; right = of_constant (number false (55 ∷ [])) })));
       depth = 1;
     })
-unfolding parse head_at text_end conditioned whole condition_at or_at comparison_at items_at if_word ◌andThen◌ operand_of operator_of
+unfolding parse head_at text_end conditioned whole condition_at or_at comparison_at items_at if_word ◌and_then◌ operand_of operator_of
     item_of behind word_number next_at next_front checked stands candidate constant_from item_from first_of fixed begins run apart
     is_piece is_constant is_variable are_digits is_name bytes_of constant_bytes variable_bytes operator_bytes word_bytes last_of every
     is_letter_or_digit is_space is_digit is_small is_capital
@@ -90,7 +90,7 @@ pub tight_reads : parse tight
           (compared (record { left = named 67; by = Equal; right = of_constant (number false (49 ∷ [])) }))))));
       depth = 3;
     })
-unfolding parse head_at text_end conditioned whole condition_at or_at comparison_at items_at if_word ◌andThen◌ operand_of operator_of
+unfolding parse head_at text_end conditioned whole condition_at or_at comparison_at items_at if_word ◌and_then◌ operand_of operator_of
     item_of behind word_number next_at next_front checked stands candidate constant_from item_from first_of fixed begins run apart
     is_piece is_constant is_variable are_digits is_name bytes_of constant_bytes variable_bytes operator_bytes word_bytes last_of every
     is_letter_or_digit is_space is_digit is_small is_capital
@@ -98,7 +98,7 @@ tight_reads = refl
 
 -- a digit and a letter meet
 pub meeting_fails : parse meeting ≡ none
-unfolding parse head_at text_end conditioned whole condition_at or_at comparison_at items_at if_word ◌andThen◌ operand_of operator_of
+unfolding parse head_at text_end conditioned whole condition_at or_at comparison_at items_at if_word ◌and_then◌ operand_of operator_of
     item_of behind word_number next_at next_front checked stands candidate constant_from item_from first_of fixed begins run apart
     is_piece is_constant is_variable are_digits is_name bytes_of constant_bytes variable_bytes operator_bytes word_bytes last_of every
     is_letter_or_digit is_space is_digit is_small is_capital
@@ -106,7 +106,7 @@ meeting_fails = refl
 
 -- a name of thirteen letters
 pub thirteen_fails : parse thirteen ≡ none
-unfolding parse head_at text_end conditioned whole condition_at or_at comparison_at items_at if_word ◌andThen◌ operand_of operator_of
+unfolding parse head_at text_end conditioned whole condition_at or_at comparison_at items_at if_word ◌and_then◌ operand_of operator_of
     item_of behind word_number next_at next_front checked stands candidate constant_from item_from first_of fixed begins run apart
     is_piece is_constant is_variable are_digits is_name bytes_of constant_bytes variable_bytes operator_bytes word_bytes last_of every
     is_letter_or_digit is_space is_digit is_small is_capital

@@ -3,22 +3,19 @@
 -- Assumes nothing.
 use mathlib.Core.Path.{◌≡◌, refl, sym, ap, ◌∙◌, subst}
 use mathlib.Core.Bool.{Bool, true, false, ◌&&◌, cond}
-use mathlib.Core.List.{List, [], ◌∷◌, ◌++◌, append-nil, append_assoc}
+use mathlib.Core.List.{List, [], ◌∷◌, ◌++◌, append-nil}
 use mathlib.Core.Option.{Option, none, some}
-use Prim.Native.Nat.{ℕ, zero, suc, ◌+◌, ◌-◌, ◌≤◌, ◌<◌}
-use native.Mathlib.Nat.{add_assoc}
+use Prim.Native.Nat.{ℕ, ◌+◌, ◌-◌, ◌≤◌, ◌<◌}
 use native.Mathlib.Omega.{arith}
-use borrow.Author.Tests.{leb-true}
-use lib.Dec.{leb}
-use lib.ListN.{length, get_or, take, drop, replicate, length-replicate, length-append, length-drop}
+use lib.ListN.{length, get_or, drop, replicate, length-replicate, length-append, length-drop}
 use lib.Seq.{drop-append_seam, drop-drop, drop_at}
-use Rattle.sets.proofs.Tests.{yes_or_no, yes_no, yes_and, and_yes}
+use Rattle.sets.proofs.Tests.{yes_no, yes_and, and_yes}
 use Rattle.grammar.specs.Pieces.{is_space, Word, Retrieve, Where, Not, And, Or, Opening, Closing, Comma, Operator}
 use Rattle.grammar.specs.Pieces.{Equal, Unequal, Less, AtMost, Greater, AtLeast, Variable, blank, letter, Constant}
 use Rattle.grammar.specs.Pieces.{number, Piece, word, operator, item, constant, word_bytes, operator_bytes}
 use Rattle.grammar.specs.Pieces.{variable_bytes, constant_bytes, bytes_of, is_name, are_digits, is_piece, is_variable}
 use Rattle.grammar.specs.Pieces.{is_constant, apart}
-use Rattle.grammar.specs.Parser.{run, begins, candidate, stands, Next, at_end, wrong, found, checked, next_front, next_at}
+use Rattle.grammar.specs.Parser.{run, begins, candidate, stands, at_end, wrong, found, checked, next_front, next_at}
 use Rattle.grammar.proofs.Bytes.{run_spaces, spaces_run, begins_append, begins_split}
 use Rattle.grammar.proofs.Candidates.{is_operator, ends_operator, candidate_of, candidate_space}
 

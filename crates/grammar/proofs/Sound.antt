@@ -2,25 +2,24 @@
 -- condition that it gives.
 -- In order: what is taken; derived pieces; items; comparisons; conditions; texts.
 -- Assumes nothing.
-use mathlib.Core.Path.{◌≡◌, refl, sym, ap, ◌∙◌, subst}
+use mathlib.Core.Path.{◌≡◌, refl, sym, ap, ◌∙◌}
 use mathlib.Core.Bool.{Bool, true, false, cond}
 use mathlib.Core.List.{List, [], ◌∷◌, ◌++◌}
 use mathlib.Core.Option.{Option, none, some}
-use Prim.Native.Nat.{ℕ, zero, suc, ◌+◌, ◌*◌, max}
+use Prim.Native.Nat.{ℕ, zero, suc, ◌+◌, ◌*◌}
 use native.Mathlib.Omega.{arith}
-use borrow.Author.Tests.{eqb-true, eq-eqb}
+use borrow.Author.Tests.{eqb-true}
 use lib.Dec.{eqb}
 use lib.ListN.{length, get_or}
 use Rattle.grammar.specs.Pieces.{Word, And, Or, Not, Comma, Opening, Closing, Where, Retrieve, Operator, Item}
 use Rattle.grammar.specs.Pieces.{Piece, word, operator, item, constant}
-use Rattle.grammar.specs.Grammar.{Condition, compared, negated, both, either, Comparison, Operand, of_item, of_constant}
-use Rattle.grammar.specs.Grammar.{Reading, IsItems, one_item, more_items, IsOperand, item_operand, constant_operand}
-use Rattle.grammar.specs.Grammar.{IsComparison, comparison, IsOr, oneAnd, moreOr, IsAnd, oneNot, moreAnd, IsNot}
-use Rattle.grammar.specs.Grammar.{onePrimary, notMore, IsPrimary, oneComparison, inParentheses, IsText, without}
-use Rattle.grammar.specs.Grammar.{conditional}
+use Rattle.grammar.specs.Grammar.{compared, Operand}
+use Rattle.grammar.specs.Grammar.{IsItems, one_item, more_items, IsOperand, item_operand, constant_operand}
+use Rattle.grammar.specs.Grammar.{comparison, IsOr, one_and, more_or, IsAnd, one_not, more_and, IsNot}
+use Rattle.grammar.specs.Grammar.{one_primary, not_more, IsPrimary, one_comparison, in_parentheses}
 use Rattle.grammar.specs.Parser.{Next, found, at_end, wrong, next_at, word_number, behind, Parsed, failed, parsed, item_of}
-use Rattle.grammar.specs.Parser.{operator_of, operand_of, ◌andThen◌, if_word, items_at, Deep, comparison_at, or_at, or_more}
-use Rattle.grammar.specs.Parser.{and_at, and_more, not_at, primary_at, condition_at, whole, text_end, head_at, parse}
+use Rattle.grammar.specs.Parser.{operator_of, operand_of, ◌and_then◌, if_word, items_at, Deep, comparison_at, or_at, or_more}
+use Rattle.grammar.specs.Parser.{and_at, and_more, not_at, primary_at, condition_at}
 use Rattle.grammar.proofs.Spelled.{Finds, none_left, one_more, finds_append}
 
 -- ---- what is taken
@@ -73,7 +72,7 @@ module _ {A B : Type 0} (s : List ℕ) (D : List Piece → A → Type 0) (E : Li
   pub derived_then : (start from : ℕ) (x : Parsed A) (k : A → ℕ → Parsed B) → Derived s D from x
       → ((ps : List Piece) (a : A) (mid : ℕ) → Finds s from ps mid → D ps a → Derived s E start (k a mid))
       → Derived s E start (x and_then k)
-  unfolding Derived ◌andThen◌
+  unfolding Derived ◌and_then◌
   derived_then start from failed k h later = tt
   derived_then start from (parsed a mid) k h later = later h.0 a mid h.1.0 h.1.1
 
@@ -191,7 +190,7 @@ comparison_whole : (s : List ℕ) (at mid late end : ℕ) (ps qs rs : List Piece
     (parsed (record { condition = compared (record { left = i; by = o; right = x }); depth = 0 }) end)
 comparison_whole s at mid late end ps qs rs i o x f g h item_piece operator_piece (operand_piece t) =
     derived_parsed s Primary' at (ps ++ (qs ++ rs)) _ end (finds_append f (finds_append g h))
-    (oneComparison (comparison t))
+    (one_comparison (comparison t))
 
 comparison_derived : (s : List ℕ) (at : ℕ) → Derived s Primary' at (comparison_at s at)
 unfolding comparison_at
@@ -221,7 +220,7 @@ module _ (s : List ℕ) (n : ℕ) (h : SoundAt s n) where
   unfolding or_at
   or_step at =
       derived_then s And' Or' at at (and_at n s at) _ (h.ands at)
-      λ ps c mid f t. h.ors_more at mid ps c f (oneAnd t)
+      λ ps c mid f t. h.ors_more at mid ps c f (one_and t)
 
   or_more_step : (start at : ℕ) (ps : List Piece) (c : Deep) → Finds s start ps at → Or' ps c
       → Derived s Or' start (or_more (suc n) s c at)
@@ -229,14 +228,14 @@ module _ (s : List ℕ) (n : ℕ) (h : SoundAt s n) where
   or_more_step start at ps c f t =
       derived_word s Or' Or start at _ _
       (λ next e. derived_then s And' Or' start next (and_at n s next) _ (h.ands next)
-      λ qs k end g u. h.ors_more start end (ps ++ word Or ∷ qs) _ (finds_append f (one_more e g)) (moreOr t u))
+      λ qs k end g u. h.ors_more start end (ps ++ word Or ∷ qs) _ (finds_append f (one_more e g)) (more_or t u))
       (derived_parsed s Or' start ps c at f t)
 
   and_step : (at : ℕ) → Derived s And' at (and_at (suc n) s at)
   unfolding or_at
   and_step at =
       derived_then s Not' And' at at (not_at n s at) _ (h.nots at)
-      λ ps c mid f t. h.ands_more at mid ps c f (oneNot t)
+      λ ps c mid f t. h.ands_more at mid ps c f (one_not t)
 
   and_more_step : (start at : ℕ) (ps : List Piece) (c : Deep) → Finds s start ps at → And' ps c
       → Derived s And' start (and_more (suc n) s c at)
@@ -244,7 +243,7 @@ module _ (s : List ℕ) (n : ℕ) (h : SoundAt s n) where
   and_more_step start at ps c f t =
       derived_word s And' And start at _ _
       (λ next e. derived_then s Not' And' start next (not_at n s next) _ (h.nots next)
-      λ qs k end g u. h.ands_more start end (ps ++ word And ∷ qs) _ (finds_append f (one_more e g)) (moreAnd t u))
+      λ qs k end g u. h.ands_more start end (ps ++ word And ∷ qs) _ (finds_append f (one_more e g)) (more_and t u))
       (derived_parsed s And' start ps c at f t)
 
   not_step : (at : ℕ) → Derived s Not' at (not_at (suc n) s at)
@@ -252,8 +251,8 @@ module _ (s : List ℕ) (n : ℕ) (h : SoundAt s n) where
   not_step at =
       derived_word s Not' Not at at _ _
       (λ next e. derived_then s Not' Not' at next (not_at n s next) _ (h.nots next)
-      λ ps c end f t. derived_parsed s Not' at (word Not ∷ ps) _ end (one_more e f) (notMore t))
-      (derived_as s Primary' Not' at (primary_at n s at) (h.primaries at) (λ ps c t. onePrimary t))
+      λ ps c end f t. derived_parsed s Not' at (word Not ∷ ps) _ end (one_more e f) (not_more t))
+      (derived_as s Primary' Not' at (primary_at n s at) (h.primaries at) (λ ps c t. one_primary t))
 
   primary_step : (at : ℕ) → Derived s Primary' at (primary_at (suc n) s at)
   unfolding or_at
@@ -262,7 +261,7 @@ module _ (s : List ℕ) (n : ℕ) (h : SoundAt s n) where
       (λ next e. derived_then s Or' Primary' at next (or_at n s next) _ (h.ors next)
       λ ps c mid f t. derived_word s Primary' Closing at mid _ _
       (λ end g. derived_parsed s Primary' at (word Opening ∷ (ps ++ word Closing ∷ [])) _ end
-      (one_more e (finds_append f (one_more g none_left))) (inParentheses t))
+      (one_more e (finds_append f (one_more g none_left))) (in_parentheses t))
       (derived_failed s Primary' at))
       (comparison_derived s at)
 

@@ -3,23 +3,22 @@
 -- pieces (`Calm`).
 -- In order: pieces found one after another; calm pieces; what the grammar has is calm; spelling.
 -- Assumes nothing.
-use mathlib.Core.Path.{◌≡◌, refl, sym, ap, ◌∙◌, subst}
-use mathlib.Core.Bool.{Bool, true, false}
+use mathlib.Core.Path.{◌≡◌, refl, sym, subst}
+use mathlib.Core.Bool.{true, false}
 use mathlib.Core.List.{List, [], ◌∷◌, ◌++◌}
-use mathlib.Core.Option.{Option, none, some}
-use Prim.Native.Nat.{ℕ, zero, suc, ◌+◌, ◌≤◌, ◌<◌}
+use Prim.Native.Nat.{ℕ, zero, suc, ◌+◌, ◌≤◌}
 use native.Mathlib.Omega.{arith}
-use lib.ListN.{length, get_or, drop, replicate, length-append}
+use lib.ListN.{length, get_or, drop, replicate}
 use Rattle.sets.proofs.Tests.{yes_no}
-use Rattle.grammar.specs.Pieces.{Word, And, Or, Not, Comma, Opening, Closing, Where, Retrieve, Piece, word, operator}
-use Rattle.grammar.specs.Pieces.{is_space, Item, item, constant, bytes_of, is_piece, apart, Spells, ended, begun}
-use Rattle.grammar.specs.Grammar.{Condition, Comparison, Operand, Reading, IsItems, one_item, more_items, IsOperand}
-use Rattle.grammar.specs.Grammar.{item_operand, constant_operand, IsComparison, comparison, IsOr, oneAnd, moreOr, IsAnd}
-use Rattle.grammar.specs.Grammar.{oneNot, moreAnd, IsNot, onePrimary, notMore, IsPrimary, oneComparison}
-use Rattle.grammar.specs.Grammar.{inParentheses, IsText, without, conditional}
-use Rattle.grammar.specs.Parser.{run, candidate, found, at_end, next_at}
+use Rattle.grammar.specs.Pieces.{Word, And, Or, Not, Comma, Opening, Closing, Where, Retrieve, Piece, word}
+use Rattle.grammar.specs.Pieces.{is_space, Item, bytes_of, is_piece, apart, Spells, ended, begun}
+use Rattle.grammar.specs.Grammar.{Condition, Comparison, Reading, IsItems, one_item, more_items}
+use Rattle.grammar.specs.Grammar.{item_operand, constant_operand, IsComparison, comparison, IsOr, one_and, more_or}
+use Rattle.grammar.specs.Grammar.{one_not, more_and, one_primary, not_more, one_comparison}
+use Rattle.grammar.specs.Grammar.{in_parentheses, IsText, without, conditional}
+use Rattle.grammar.specs.Parser.{run, found, at_end, next_at}
 use Rattle.grammar.proofs.Candidates.{is_operator, ends_operator, candidate_of, candidate_begun}
-use Rattle.grammar.proofs.Nexts.{Within, found_within, found_stands, stands_found, behind_rest, spaces_end, end_spaces}
+use Rattle.grammar.proofs.Nexts.{found_within, found_stands, stands_found, behind_rest, spaces_end, end_spaces}
 
 -- ---- pieces found one after another
 
@@ -114,14 +113,14 @@ calm_comparison (comparison constant_operand) = (λ y. absurd (yes_no y refl), (
 calm_or : {ps : List Piece} {c : Condition} {d : ℕ} → IsOr ps c d → Calm ps
 calm_or t =
     elim t as (λ ps c d y. Calm ps) (λ ps c d y. Calm ps) (λ ps c d y. Calm ps) (λ ps c d y. Calm ps) [
-      | oneAnd (t → h) ↦ h
-      | moreOr {ps = ps} {qs = qs} (t → h) (u → k) ↦ calm_append ps (word Or ∷ qs) h (calm_word Or qs k)
-      | oneNot (t → h) ↦ h
-      | moreAnd {ps = ps} {qs = qs} (t → h) (u → k) ↦ calm_append ps (word And ∷ qs) h (calm_word And qs k)
-      | onePrimary (t → h) ↦ h
-      | notMore {ps = ps} (t → h) ↦ calm_word Not ps h
-      | oneComparison t ↦ calm_comparison t
-      | inParentheses {ps = ps} (t → h) ↦ calm_word Opening (ps ++ word Closing ∷ [])
+      | one_and (t → h) ↦ h
+      | more_or {ps = ps} {qs = qs} (t → h) (u → k) ↦ calm_append ps (word Or ∷ qs) h (calm_word Or qs k)
+      | one_not (t → h) ↦ h
+      | more_and {ps = ps} {qs = qs} (t → h) (u → k) ↦ calm_append ps (word And ∷ qs) h (calm_word And qs k)
+      | one_primary (t → h) ↦ h
+      | not_more {ps = ps} (t → h) ↦ calm_word Not ps h
+      | one_comparison t ↦ calm_comparison t
+      | in_parentheses {ps = ps} (t → h) ↦ calm_word Opening (ps ++ word Closing ∷ [])
           (calm_append ps (word Closing ∷ []) h (calm_word Closing [] calm_none))
     ]
 

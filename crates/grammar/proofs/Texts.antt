@@ -4,15 +4,15 @@
 use mathlib.Core.Path.{◌≡◌, refl, sym, ap, ◌∙◌, subst}
 use mathlib.Core.List.{List, [], ◌∷◌, ◌++◌, append_assoc}
 use mathlib.Core.Option.{Option, none, some}
-use Prim.Native.Nat.{ℕ, zero, suc, ◌+◌, ◌*◌, ◌≤◌, ◌<◌}
+use Prim.Native.Nat.{ℕ, ◌≤◌}
 use native.Mathlib.Omega.{arith}
-use lib.ListN.{length, drop, length-append}
-use Rattle.grammar.specs.Pieces.{Word, And, Or, Comma, Opening, Closing, Where, Retrieve, Item, Piece, word, Spells}
+use lib.ListN.{length, length-append}
+use Rattle.grammar.specs.Pieces.{Word, And, Or, Comma, Opening, Closing, Where, Retrieve, Item, Piece, word}
 use Rattle.grammar.specs.Grammar.{Condition, Reading, IsItems, IsOr, IsText, without, conditional, HasReading}
 use Rattle.grammar.specs.Parser.{Next, found, at_end, wrong, next_at, word_number, behind, Parsed, failed, parsed}
-use Rattle.grammar.specs.Parser.{◌andThen◌, if_word, items_at, Deep, condition_at, whole, conditioned, text_end, head_at, parse}
-use Rattle.grammar.proofs.Spelled.{Finds, none_left, one_more, finds_append, Ahead, finds_ahead, Parts, finds_parts}
-use Rattle.grammar.proofs.Spelled.{finds_length, finds_spells, FoundAll, spells_finds, calm_text}
+use Rattle.grammar.specs.Parser.{items_at, Deep, condition_at, whole, conditioned, text_end, head_at, parse}
+use Rattle.grammar.proofs.Spelled.{Finds, none_left, one_more, finds_append, finds_ahead, finds_parts}
+use Rattle.grammar.proofs.Spelled.{finds_length, finds_spells, spells_finds, calm_text}
 use Rattle.grammar.proofs.Sound.{behind_word, Derived, derived_then, derived_word, derived_failed, derived_parsed}
 use Rattle.grammar.proofs.Sound.{items_derived, Or', condition_derived}
 use Rattle.grammar.proofs.Complete.{takes_word, takes_none, if_some, then_parsed, finds_nil, items_complete}

@@ -1,8 +1,7 @@
 -- The statements of `specs/Statements`, in their order.
 -- Assumes nothing.
-use mathlib.Core.Path.{◌≡◌, sym, ◌∙◌}
+use mathlib.Core.Path.{◌≡◌}
 use mathlib.Core.List.{List}
-use mathlib.Core.Option.{some}
 use Prim.Native.Nat.{ℕ}
 use Rattle.grammar.specs.Grammar.{Reading, HasReading}
 use Rattle.grammar.specs.Statements.{ParsesExactly, OneReading}

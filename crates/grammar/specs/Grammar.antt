@@ -5,7 +5,7 @@
 -- Assumes nothing.
 use Rattle.std.specs.Prelude.{List, [], ◌∷◌, ◌++◌, ℕ, suc, max}
 use Rattle.std.proofs.Math.Option.{Option, none, some}
-use Rattle.grammar.specs.Pieces.{Word, Retrieve, Where, Not, And, Or, Opening, Closing, Comma, Operator, Item}
+use Rattle.grammar.specs.Pieces.{Retrieve, Where, Not, And, Or, Opening, Closing, Comma, Operator, Item}
 use Rattle.grammar.specs.Pieces.{Constant, Piece, word, operator, item, constant, Spells}
 
 -- ---- readings
@@ -55,25 +55,25 @@ pub data IsComparison : List Piece → Comparison → Type 0 where
 mutual
   -- one or more parted by `or`
   pub data IsOr : List Piece → Condition → ℕ → Type 0 where
-    oneAnd : {ps : List Piece} {c : Condition} {d : ℕ} → IsAnd ps c d → IsOr ps c d
-    moreOr : {ps qs : List Piece} {c e : Condition} {d f : ℕ} → IsOr ps c d → IsAnd qs e f
+    one_and : {ps : List Piece} {c : Condition} {d : ℕ} → IsAnd ps c d → IsOr ps c d
+    more_or : {ps qs : List Piece} {c e : Condition} {d f : ℕ} → IsOr ps c d → IsAnd qs e f
         → IsOr (ps ++ word Or ∷ qs) (either c e) (max d f)
 
   -- one or more parted by `and`
   pub data IsAnd : List Piece → Condition → ℕ → Type 0 where
-    oneNot : {ps : List Piece} {c : Condition} {d : ℕ} → IsNot ps c d → IsAnd ps c d
-    moreAnd : {ps qs : List Piece} {c e : Condition} {d f : ℕ} → IsAnd ps c d → IsNot qs e f
+    one_not : {ps : List Piece} {c : Condition} {d : ℕ} → IsNot ps c d → IsAnd ps c d
+    more_and : {ps qs : List Piece} {c e : Condition} {d f : ℕ} → IsAnd ps c d → IsNot qs e f
         → IsAnd (ps ++ word And ∷ qs) (both c e) (max d f)
 
   -- a primary, or `not` before another of these
   pub data IsNot : List Piece → Condition → ℕ → Type 0 where
-    onePrimary : {ps : List Piece} {c : Condition} {d : ℕ} → IsPrimary ps c d → IsNot ps c d
-    notMore : {ps : List Piece} {c : Condition} {d : ℕ} → IsNot ps c d → IsNot (word Not ∷ ps) (negated c) d
+    one_primary : {ps : List Piece} {c : Condition} {d : ℕ} → IsPrimary ps c d → IsNot ps c d
+    not_more : {ps : List Piece} {c : Condition} {d : ℕ} → IsNot ps c d → IsNot (word Not ∷ ps) (negated c) d
 
   -- a comparison, or a condition in parentheses
   pub data IsPrimary : List Piece → Condition → ℕ → Type 0 where
-    oneComparison : {ps : List Piece} {x : Comparison} → IsComparison ps x → IsPrimary ps (compared x) 0
-    inParentheses : {ps : List Piece} {c : Condition} {d : ℕ} → IsOr ps c d
+    one_comparison : {ps : List Piece} {x : Comparison} → IsComparison ps x → IsPrimary ps (compared x) 0
+    in_parentheses : {ps : List Piece} {c : Condition} {d : ℕ} → IsOr ps c d
         → IsPrimary (word Opening ∷ (ps ++ word Closing ∷ [])) c (suc d)
 
 -- ---- texts: "`retrieve`, then one or more items parted by commas in parentheses, then nothing or `where` and a

@@ -7,9 +7,9 @@ use Rattle.std.specs.Prelude.{Bool, true, false, ◌&&◌, cond, List, [], ◌�
 use Rattle.std.proofs.Math.Option.{Option, none, some}
 use Rattle.grammar.specs.Pieces.{is_capital, is_small, is_digit, is_space, Word, Retrieve, Where, Not, And, Or, Opening}
 use Rattle.grammar.specs.Pieces.{Closing, Comma, Operator, Equal, Unequal, Less, AtMost, Greater, AtLeast, Variable}
-use Rattle.grammar.specs.Pieces.{blank, letter, Item, Constant, number, Piece, word, operator, item, constant}
+use Rattle.grammar.specs.Pieces.{blank, letter, Item, number, Piece, word, operator, item, constant}
 use Rattle.grammar.specs.Pieces.{bytes_of, is_piece, apart}
-use Rattle.grammar.specs.Grammar.{Operand, of_item, of_constant, Comparison, Condition, compared, negated, both, either}
+use Rattle.grammar.specs.Grammar.{Operand, of_item, of_constant, Condition, compared, negated, both, either}
 use Rattle.grammar.specs.Grammar.{Reading}
 
 -- ---- runs of bytes
@@ -145,9 +145,9 @@ operand_of (found (constant k) next) = parsed (of_constant k) next
 
 -- ---- one thing after another
 
-infixl 20 ◌andThen◌
+infixl 20 ◌and_then◌
 -- what stands behind what was parsed
-unfoldable pub ◌andThen◌ : {A B : Type 0} → Parsed A → (A → ℕ → Parsed B) → Parsed B
+unfoldable pub ◌and_then◌ : {A B : Type 0} → Parsed A → (A → ℕ → Parsed B) → Parsed B
 failed and_then k = failed
 parsed a next and_then k = k a next
 

@@ -12,7 +12,7 @@ use lib.ListN.{length, length-append}
 use Rattle.sets.proofs.Tests.{yes_no}
 use Rattle.grammar.specs.Pieces.{Word, word}
 use Rattle.grammar.specs.Grammar.{Condition}
-use Rattle.grammar.specs.Parser.{found, next_at, word_number, behind, Parsed, failed, parsed, ◌andThen◌, if_word, Deep}
+use Rattle.grammar.specs.Parser.{found, next_at, word_number, behind, Parsed, failed, parsed, ◌and_then◌, if_word, Deep}
 use Rattle.text.specs.Tokens.{token_at}
 use Rattle.text.specs.Programs.{program, written, nothing, ShowsParsed, Shows, Gave, after_token, with_word, word_written}
 use Rattle.text.specs.declared.Parse.{Parse}

@@ -12,7 +12,7 @@ use lib.ListN.{length}
 use Rattle.grammar.specs.Pieces.{Item, Operator, Constant, number, Piece, word, operator, item, constant}
 use Rattle.grammar.specs.Grammar.{Operand, of_item, of_constant, compared}
 use Rattle.grammar.specs.Parser.{Next, at_end, wrong, found, next_at, Parsed, failed, parsed, item_of, operator_of}
-use Rattle.grammar.specs.Parser.{operand_of, ◌andThen◌, comparison_at}
+use Rattle.grammar.specs.Parser.{operand_of, ◌and_then◌, comparison_at}
 use Rattle.text.specs.Tokens.{operator_number, variable_number, name_number, magnitude, constant_token, token_of, shown}
 use Rattle.text.specs.Tokens.{token_at}
 use Rattle.text.specs.Programs.{sign_word, constant_words, operand_words, comparison_words, program, compared_words}
@@ -129,7 +129,7 @@ no_operand (found (constant k) mid) h =
 -- ---- what `comparison_at` gives
 
 pub then_failed : {A B : Type 0} {x : Parsed A} (k : A → ℕ → Parsed B) → x ≡ failed → (x and_then k) ≡ failed
-unfolding ◌andThen◌
+unfolding ◌and_then◌
 then_failed k e = ap (λ (x : Parsed _). x and_then k) e
 
 fails : (s : List ℕ) (at : ℕ) (r : Compared) → r.ok ≡ false → comparison_at s at ≡ failed
@@ -183,7 +183,7 @@ module _ (s : List ℕ) (at : ℕ) (first : Token) (e1 : first ≡ token_at s at
         module _ (third : Token) (e3 : third ≡ token_at s late) where
           pub third_fails : (r : Compared) → r.ok ≡ false → OneOf (0 ∷ 1 ∷ 2 ∷ 3 ∷ []) (tag third)
               → ComparedShows s at r (comparison_at s at)
-          unfolding token_at ◌andThen◌
+          unfolding token_at ◌and_then◌
           third_fails r h k =
               fails s at r h
               (before_third (no_operand (next_at s late)
@@ -194,7 +194,7 @@ module _ (s : List ℕ) (at : ℕ) (first : Token) (e1 : first ≡ token_at s at
               → ComparedShows s at
               (record { ok = true; letter = v; name = m; operator = o; letter2 = v2; name2 = m2; next = next })
               (comparison_at s at)
-          unfolding ◌andThen◌ ComparedShows compared_words program comparison_words
+          unfolding ◌and_then◌ ComparedShows compared_words program comparison_words
           done x v2 m2 next g h k w =
               subst (ComparedShows s at _) (sym (before_third g)) (
                 refl,

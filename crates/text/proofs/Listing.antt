@@ -10,7 +10,7 @@ use native.Mathlib.Omega.{arith}
 use types.Run.{OneOf}
 use lib.ListN.{length, length-append}
 use Rattle.grammar.specs.Pieces.{Item, Comma, word, item}
-use Rattle.grammar.specs.Parser.{found, next_at, word_number, behind, Parsed, failed, parsed, item_of, ◌andThen◌, items_at}
+use Rattle.grammar.specs.Parser.{found, next_at, word_number, behind, Parsed, failed, parsed, item_of, ◌and_then◌, items_at}
 use Rattle.text.specs.Tokens.{variable_number, name_number, token_at}
 use Rattle.text.specs.Programs.{item_words, written, after_token, no_items, ItemsParsed, ItemsShow}
 use Rattle.text.specs.declared.Token.{Token}
@@ -25,18 +25,18 @@ use Rattle.text.proofs.Writing.{written_length, written_both, after_none, after_
 
 then_then : {A B C : Type 0} (x : Parsed A) (f : A → ℕ → Parsed B) (g : B → ℕ → Parsed C)
     → ((x and_then f) and_then g) ≡ (x and_then λ a next. f a next and_then g)
-unfolding ◌andThen◌
+unfolding ◌and_then◌
 then_then failed f g = refl
 then_then (parsed a next) f g = refl
 
 then_same : {A B : Type 0} (x : Parsed A) (f g : A → ℕ → Parsed B) → ((a : A) (next : ℕ) → f a next ≡ g a next)
     → (x and_then f) ≡ (x and_then g)
-unfolding ◌andThen◌
+unfolding ◌and_then◌
 then_same failed f g h = refl
 then_same (parsed a next) f g h = h a next
 
 then_self : {A : Type 0} (x : Parsed A) → x ≡ (x and_then λ a next. parsed a next)
-unfolding ◌andThen◌
+unfolding ◌and_then◌
 then_self failed = refl
 then_self (parsed a next) = refl
 
@@ -197,7 +197,7 @@ module _ (s : List ℕ) (at : ℕ) (before : List ℕ) where
             -- one more behind a comma
             pub going_next : {x place : ℕ} {once out' : List ℕ} {k : ℕ} → x ≡ v → once ≡ written (2 * n) (x ∷ []) out
                 → place ≡ 2 * n + 1 → out' ≡ written place (m ∷ []) once → k ≡ n + 1 → Going k comma out'
-            unfolding items_at item_of more ◌andThen◌
+            unfolding items_at item_of more ◌and_then◌
             going_next z h p w q =
                 let (j, a) = taken g.left g.enough in
                 let one : items_at g.left s here ≡ (items_at j s comma and_then λ is end. parsed (there.it ∷ is) end) =

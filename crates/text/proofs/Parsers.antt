@@ -14,7 +14,7 @@ use lib.ListN.{length, length-append}
 use Rattle.sets.proofs.Tests.{yes_no}
 use Rattle.grammar.specs.Pieces.{word, And, Or, Not, Opening, Closing}
 use Rattle.grammar.specs.Grammar.{Condition, negated, both, either}
-use Rattle.grammar.specs.Parser.{found, next_at, word_number, behind, Parsed, failed, parsed, ◌andThen◌, if_word, Deep}
+use Rattle.grammar.specs.Parser.{found, next_at, word_number, behind, Parsed, failed, parsed, ◌and_then◌, if_word, Deep}
 use Rattle.grammar.specs.Parser.{comparison_at, or_at, or_more, and_at, and_more, not_at, primary_at, condition_at}
 use Rattle.text.specs.Tokens.{token_at}
 use Rattle.text.specs.Programs.{program, written, nothing, ShowsParsed, Shows, Gave, after_token, with_word, word_written}
@@ -308,7 +308,7 @@ module _ (s : List ℕ) (at to : ℕ) (before : List ℕ) (room : to + 2 * (leng
         -- the closing parenthesis is there, or it is not
         primary_ends : (g : Deep) (mid : ℕ) → ((m : ℕ) → 4 * (length s - next) + 4 ≤ m → or_at m s next ≡ parsed g mid)
             → ShowsParsed s next to before after q g mid → (end : ℕ) → end ≡ after_token 6 (token_at s q.next) → Result
-        unfolding Shows ◌andThen◌ word_number
+        unfolding Shows ◌and_then◌ word_number
         primary_ends g mid f k zero e6 =
             primary_fails (parsed g mid) f
             (if_none _ _ (subst (λ (m : ℕ). behind Closing (next_at s m) ≡ none) (shows_next k)
@@ -341,7 +341,7 @@ module _ (s : List ℕ) (at to : ℕ) (before : List ℕ) (room : to + 2 * (leng
           where
             go : (x : Parsed Deep) → ((m : ℕ) → 4 * (length s - next) + 4 ≤ m → or_at m s next ≡ x)
                 → Shows s next to before after q x → Result
-            go failed f k = unfold Shows ◌andThen◌ in
+            go failed f k = unfold Shows ◌and_then◌ in
                 (primary_fails failed f refl (er ∙ ap (closing s) k.0 ∙ closing_none s nothing (unfold nothing in refl))
                 k.1)
             go (parsed g mid) f k = unfold Shows in (primary_ends g mid f k _ refl)

@@ -13,7 +13,7 @@ use lib.ListN.{length, length-append}
 use Rattle.sets.proofs.Tests.{yes_or_no, yes_no}
 use Rattle.grammar.specs.Pieces.{Item, Constant, number, Retrieve, Where, Opening, Closing, word, operator, item, constant}
 use Rattle.grammar.specs.Grammar.{Reading}
-use Rattle.grammar.specs.Parser.{Next, at_end, wrong, found, next_at, word_number, behind, Parsed, failed, parsed, ◌andThen◌}
+use Rattle.grammar.specs.Parser.{Next, at_end, wrong, found, next_at, word_number, behind, Parsed, failed, parsed, ◌and_then◌}
 use Rattle.grammar.specs.Parser.{if_word, items_at, or_at, condition_at, Deep, whole, conditioned, text_end, head_at, parse}
 use Rattle.text.specs.Tokens.{constant_token, token_of, shown, token_at}
 use Rattle.text.specs.Programs.{program, condition_words, is_conditional, item_words, written, nothing, ShowsParsed}
