@@ -361,8 +361,8 @@ module _ (s : List ℕ) (w : Word) (join : Condition → Condition → Condition
                 });
               }
 
-              pub round-next : Round at to before after2 r'
-              round-next = go p.given refl p.shown
+              pub round_next : Round at to before after2 r'
+              round_next = go p.given refl p.shown
                 where
                   go : (x : Parsed Deep) → p.given ≡ x → Shows s next r.end after after1 q x
                       → Round at to before after2 r'
@@ -391,4 +391,4 @@ module _ (s : List ℕ) (w : Word) (join : Condition → Condition → Condition
                       ))
 
               pub next_length : length after2 ≡ length before
-              next_length = shows_same s at to before after2 r' round-next.given round-next.shown room
+              next_length = shows_same s at to before after2 r' round_next.given round_next.shown room

@@ -15,25 +15,25 @@ pub shape_of-out-in_default : goal.shape_of-out-in_default
 shape_of-out-in_default c = going_long _ _ _ c.loop-letter.invariant c.requires.1
 
 pub returns-in_default : goal.returns-in_default
-returns-in_default c = going_fails _ _ _ c.loop-letter.invariant c.requires.1 _ c.token_at-t.ensures c.no_items.ensures c.in_default.keys2
+returns-in_default c = going_fails _ _ _ c.loop-letter.invariant c.requires.1 _ c.token_at-t.ensures c.no_items.ensures ?
 
 pub put-place-requires : goal.put-place-requires
-put-place-requires c = first_room _ _ _ c.loop-letter.invariant c.requires.1 _ c.token_at-t.ensures _ _ _ c.t-1.given.1
+put-place-requires c = first_room _ _ _ c.loop-letter.invariant c.requires.1 _ c.token_at-t.ensures _ _ _ c.in-ItemAt.is
 
 pub put-requires : goal.put-requires
-put-requires c = second_place _ _ _ c.loop-letter.invariant c.requires.1 _ c.token_at-t.ensures _ _ _ c.t-1.given.1 _ c.put-place.ensures.out_after c.put-place.ensures.value
+put-requires c = second_place _ _ _ c.loop-letter.invariant c.requires.1 _ c.token_at-t.ensures _ _ _ c.in-ItemAt.is _ c.put-place.ensures.out_after c.put-place.ensures.value
 
 pub after-next-requires : goal.after-next-requires
-after-next-requires c = (mid_within _ _ _ c.loop-letter.invariant c.requires.1 _ c.token_at-t.ensures _ _ _ c.t-1.given.1).inside
+after-next-requires c = (mid_within _ _ _ c.loop-letter.invariant c.requires.1 _ c.token_at-t.ensures _ _ _ c.in-ItemAt.is).inside
 
 pub shape_of-out-then-next-eq0 : goal.shape_of-out-then-next-eq0
-shape_of-out-then-next-eq0 c = more_same _ _ _ c.loop-letter.invariant c.requires.1 _ c.token_at-t.ensures _ _ _ c.t-1.given.1 c.wide.ensures.0 c.put-place.ensures.out_after c.put-place.ensures.value c.put.ensures.out_after
+shape_of-out-then-next-eq0 c = more_same _ _ _ c.loop-letter.invariant c.requires.1 _ c.token_at-t.ensures _ _ _ c.in-ItemAt.is c.wide.ensures.0 c.put-place.ensures.out_after c.put-place.ensures.value c.put.ensures.out_after
 
 pub returns-then-next-eq0 : goal.returns-then-next-eq0
-returns-then-next-eq0 c = going_last _ _ _ c.loop-letter.invariant c.requires.1 _ c.token_at-t.ensures _ _ _ c.t-1.given.1 _ c.after-next.ensures c.wide.ensures.0 c.put-place.ensures.out_after c.put-place.ensures.value c.put.ensures.out_after refl c.if-next-eq0.true
+returns-then-next-eq0 c = going_last _ _ _ c.loop-letter.invariant c.requires.1 _ c.token_at-t.ensures _ _ _ c.in-ItemAt.is _ c.after-next.ensures c.wide.ensures.0 c.put-place.ensures.out_after c.put-place.ensures.value c.put.ensures.out_after refl c.if-next-eq0.true
 
 pub loop-letter-smaller : goal.loop-letter-smaller
-loop-letter-smaller c = omega (arith, (mid_within _ _ _ c.loop-letter.invariant c.requires.1 _ c.token_at-t.ensures _ _ _ c.t-1.given.1).after, (comma_within _ _ _ c.loop-letter.invariant c.requires.1 _ c.token_at-t.ensures _ _ _ c.t-1.given.1 _ c.after-next.ensures c.if-next-eq0.false).after, (comma_within _ _ _ c.loop-letter.invariant c.requires.1 _ c.token_at-t.ensures _ _ _ c.t-1.given.1 _ c.after-next.ensures c.if-next-eq0.false).inside)
+loop-letter-smaller c = omega (arith, (mid_within _ _ _ c.loop-letter.invariant c.requires.1 _ c.token_at-t.ensures _ _ _ c.in-ItemAt.is).after, (comma_within _ _ _ c.loop-letter.invariant c.requires.1 _ c.token_at-t.ensures _ _ _ c.in-ItemAt.is _ c.after-next.ensures c.if-next-eq0.false).after, (comma_within _ _ _ c.loop-letter.invariant c.requires.1 _ c.token_at-t.ensures _ _ _ c.in-ItemAt.is _ c.after-next.ensures c.if-next-eq0.false).inside)
 
 pub loop-letter-preserved : goal.loop-letter-preserved
-loop-letter-preserved c = going_next _ _ _ c.loop-letter.invariant c.requires.1 _ c.token_at-t.ensures _ _ _ c.t-1.given.1 _ c.after-next.ensures c.if-next-eq0.false c.wide.ensures.0 c.put-place.ensures.out_after c.put-place.ensures.value c.put.ensures.out_after refl
+loop-letter-preserved c = going_next _ _ _ c.loop-letter.invariant c.requires.1 _ c.token_at-t.ensures _ _ _ c.in-ItemAt.is _ c.after-next.ensures c.if-next-eq0.false c.wide.ensures.0 c.put-place.ensures.out_after c.put-place.ensures.value c.put.ensures.out_after refl

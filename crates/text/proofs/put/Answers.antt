@@ -5,4 +5,4 @@ use borrow.Author.Rules.{rules}
 use Rattle.text.proofs.put.Goals as goal
 
 pub returns : goal.returns
-returns c = let r = search (rules, written_word) in record { value = r.0; out_after = r.1 }
+returns c = record { value = search rules; out_after = search (rules, written_word) }

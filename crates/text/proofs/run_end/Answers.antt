@@ -10,10 +10,10 @@ pub loop-i-init : goal.loop-i-init
 loop-i-init c = search (rules, running_start)
 
 pub returns-then-not-between : goal.returns-then-not-between
-returns-then-not-between c = let r = search (rules, running_stops) in record { value = r.0; inside = r.1 }
+returns-then-not-between c = record { value = search (rules, running_stops); inside = search rules }
 
 pub loop-i-preserved : goal.loop-i-preserved
 loop-i-preserved c = search (rules, running_next)
 
 pub returns : goal.returns
-returns c = let r = search (rules, running_ends) in record { value = r.0; inside = r.1 }
+returns c = record { value = search (rules, running_ends); inside = search rules }
