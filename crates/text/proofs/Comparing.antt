@@ -4,12 +4,11 @@
 use mathlib.Core.Path.{◌≡◌, refl, sym, ap, ◌∙◌, subst}
 use mathlib.Core.Bool.{Bool, true, false}
 use mathlib.Core.List.{List, [], ◌∷◌}
-use Prim.Native.Nat.{ℕ, ◌+◌, ◌≤◌, ◌<◌}
+use Prim.Native.Nat.{ℕ, ◌≤◌, ◌<◌}
 use native.Mathlib.Omega.{arith}
-use types.Run.{OneOf, miss}
 use denote.Enum.Declared.{tag_of}
 use lib.ListN.{length}
-use Rattle.grammar.specs.Pieces.{Item, Operator, Constant, number, Piece, word, operator, item, constant}
+use Rattle.grammar.specs.Pieces.{Item, Operator, Constant, number, word, operator, item, constant}
 use Rattle.grammar.specs.Grammar.{Operand, of_item, of_constant, compared}
 use Rattle.grammar.specs.Parser.{Next, at_end, wrong, found, next_at, Parsed, failed, parsed, item_of, operator_of}
 use Rattle.grammar.specs.Parser.{operand_of, ◌and_then◌, comparison_at}
@@ -18,10 +17,10 @@ use Rattle.text.specs.Tokens.{token_at}
 use Rattle.text.specs.Programs.{sign_word, constant_words, operand_words, comparison_words, program, compared_words}
 use Rattle.text.specs.Programs.{ComparedShows}
 use Rattle.text.specs.declared.Token.{Token}
-use Rattle.text.specs.declared.Token.TheVariants.{AtEnd, NoPiece, WordAt, OperatorAt, ItemAt, NumberAt}
+use Rattle.text.specs.declared.Token.TheVariants.{OperatorAt, ItemAt, NumberAt}
 use Rattle.text.specs.declared.Compared.{Compared}
 use Rattle.text.specs.contracts.Token.{the_type}
-use Rattle.grammar.proofs.Nexts.{Within, found_within}
+use Rattle.grammar.proofs.Nexts.{found_within}
 use Rattle.grammar.proofs.Complete.{then_parsed}
 
 -- ---- a piece from its token
@@ -50,7 +49,7 @@ pub record TheConstant (x : Next) (minus : Bool) (m next : ℕ) : Type 0 where
   pub is : x ≡ found (constant (number minus digits)) next
   pub same : magnitude digits ≡ m
 
-abbrev pub tag : Token → ℕ
+abbrev tag : Token → ℕ
 tag t = tag_of the_type t
 
 pub the_item : (x : Next) (v m next : ℕ) → shown x ≡ ItemAt v m next → TheItem x v m next
@@ -98,33 +97,42 @@ the_constant (found (operator o) mid) b m next e = clash (let z : ◌≡◌ {A =
 the_constant (found (item i) mid) b m next e = clash (let z : ◌≡◌ {A = ℕ} 0 1 = cc in z)
 the_constant (found (constant k) mid) b m next e = constant_of k mid b m next e
 
-pub no_item : (x : Next) → OneOf (0 ∷ 1 ∷ 2 ∷ 3 ∷ 5 ∷ []) (tag (shown x)) → item_of x ≡ failed
+-- tokens that are none of a sort
+abbrev pub NoItem : Token → Type 0
+NoItem t = (v m next : ℕ) → t ≡ ItemAt v m next → ⊥
+
+abbrev pub NoOperator : Token → Type 0
+NoOperator t = (o next : ℕ) → t ≡ OperatorAt o next → ⊥
+
+abbrev pub NoNumber : Token → Type 0
+NoNumber t = (minus : Bool) (m next : ℕ) → t ≡ NumberAt minus m next → ⊥
+
+pub no_item : (x : Next) → NoItem (shown x) → item_of x ≡ failed
 unfolding shown token_of item_of
 no_item at_end h = refl
 no_item wrong h = refl
 no_item (found (word w) mid) h = refl
 no_item (found (operator o) mid) h = refl
-no_item (found (item i) mid) h = absurd (miss (0 ∷ 1 ∷ 2 ∷ 3 ∷ 5 ∷ []) 4 tt h)
+no_item (found (item i) mid) h = absurd (h _ _ _ refl)
 no_item (found (constant k) mid) h = refl
 
-no_operator : (x : Next) → OneOf (0 ∷ 1 ∷ 2 ∷ 4 ∷ 5 ∷ []) (tag (shown x)) → operator_of x ≡ failed
+no_operator : (x : Next) → NoOperator (shown x) → operator_of x ≡ failed
 unfolding shown token_of operator_of
 no_operator at_end h = refl
 no_operator wrong h = refl
 no_operator (found (word w) mid) h = refl
-no_operator (found (operator o) mid) h = absurd (miss (0 ∷ 1 ∷ 2 ∷ 4 ∷ 5 ∷ []) 3 tt h)
+no_operator (found (operator o) mid) h = absurd (h _ _ refl)
 no_operator (found (item i) mid) h = refl
 no_operator (found (constant k) mid) h = refl
 
-no_operand : (x : Next) → OneOf (0 ∷ 1 ∷ 2 ∷ 3 ∷ []) (tag (shown x)) → operand_of x ≡ failed
-unfolding shown token_of operand_of
-no_operand at_end h = refl
-no_operand wrong h = refl
-no_operand (found (word w) mid) h = refl
-no_operand (found (operator o) mid) h = refl
-no_operand (found (item i) mid) h = absurd (miss (0 ∷ 1 ∷ 2 ∷ 3 ∷ []) 4 tt h)
-no_operand (found (constant k) mid) h =
-    absurd (miss (0 ∷ 1 ∷ 2 ∷ 3 ∷ []) 5 tt (subst (OneOf (0 ∷ 1 ∷ 2 ∷ 3 ∷ [])) (constant_kind k mid) h))
+no_operand : (x : Next) → NoItem (shown x) → NoNumber (shown x) → operand_of x ≡ failed
+unfolding shown token_of constant_token operand_of
+no_operand at_end h k = refl
+no_operand wrong h k = refl
+no_operand (found (word w) mid) h k = refl
+no_operand (found (operator o) mid) h k = refl
+no_operand (found (item i) mid) h k = absurd (h _ _ _ refl)
+no_operand (found (constant (number minus digits)) mid) h k = absurd (k _ _ _ refl)
 
 -- ---- what `comparison_at` gives
 
@@ -138,12 +146,12 @@ unfolding ComparedShows
 fails s at r h e = subst (ComparedShows s at r) (sym e) h
 
 module _ (s : List ℕ) (at : ℕ) (first : Token) (e1 : first ≡ token_at s at) where
-  pub first_fails : (r : Compared) → r.ok ≡ false → OneOf (0 ∷ 1 ∷ 2 ∷ 3 ∷ 5 ∷ []) (tag first)
+  pub first_fails : (r : Compared) → r.ok ≡ false → NoItem first
       → ComparedShows s at r (comparison_at s at)
   unfolding comparison_at token_at
   first_fails r h k =
       fails s at r h (then_failed _ (no_item (next_at s at)
-      (subst (λ (t : Token). OneOf (0 ∷ 1 ∷ 2 ∷ 3 ∷ 5 ∷ []) (tag t)) e1 k)))
+      (subst NoItem e1 k)))
 
   module _ (v m mid : ℕ) (f1 : first ≡ ItemAt v m mid) where
     i1 : TheItem (next_at s at) v m mid
@@ -154,13 +162,13 @@ module _ (s : List ℕ) (at : ℕ) (first : Token) (e1 : first ≡ token_at s at
     mid_inside = (found_within s at i1.is).inside
 
     module _ (second : Token) (e2 : second ≡ token_at s mid) where
-      pub second_fails : (r : Compared) → r.ok ≡ false → OneOf (0 ∷ 1 ∷ 2 ∷ 4 ∷ 5 ∷ []) (tag second)
+      pub second_fails : (r : Compared) → r.ok ≡ false → NoOperator second
           → ComparedShows s at r (comparison_at s at)
       unfolding comparison_at token_at item_of
       second_fails r h k =
           fails s at r h (then_parsed _ (ap item_of i1.is)
           ∙ then_failed _ (no_operator (next_at s mid)
-          (subst (λ (t : Token). OneOf (0 ∷ 1 ∷ 2 ∷ 4 ∷ 5 ∷ []) (tag t)) e2 k)))
+          (subst NoOperator e2 k)))
 
       module _ (o late : ℕ) (f2 : second ≡ OperatorAt o late) where
         i2 : TheOperator (next_at s mid) o late
@@ -181,13 +189,13 @@ module _ (s : List ℕ) (at : ℕ) (first : Token) (e1 : first ≡ token_at s at
             (record { condition = compared (record { left = i1.it; by = i2.it; right = y }); depth = 0 }) end) g
 
         module _ (third : Token) (e3 : third ≡ token_at s late) where
-          pub third_fails : (r : Compared) → r.ok ≡ false → OneOf (0 ∷ 1 ∷ 2 ∷ 3 ∷ []) (tag third)
+          pub third_fails : (r : Compared) → r.ok ≡ false → NoItem third → NoNumber third
               → ComparedShows s at r (comparison_at s at)
           unfolding token_at ◌and_then◌
-          third_fails r h k =
+          third_fails r h k m =
               fails s at r h
               (before_third (no_operand (next_at s late)
-              (subst (λ (t : Token). OneOf (0 ∷ 1 ∷ 2 ∷ 3 ∷ []) (tag t)) e3 k)))
+              (subst NoItem e3 k) (subst NoNumber e3 m)))
 
           done : (x : Operand) (v2 m2 next : ℕ) → operand_of (next_at s late) ≡ parsed x next → late < next
               → next ≤ length s → v2 ∷ m2 ∷ [] ≡ operand_words x

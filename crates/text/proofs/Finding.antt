@@ -1,25 +1,24 @@
 -- The token at a position, by the bytes that stand there behind spaces.
 -- In order: behind the spaces; each way to begin.
 -- Assumes nothing.
-use mathlib.Core.Path.{◌≡◌, refl, sym, ap, ◌∙◌, subst}
-use mathlib.Core.Bool.{Bool, true, false, ◌&&◌, cond}
-use mathlib.Core.List.{List, [], ◌∷◌}
-use mathlib.Core.Option.{Option, none, some}
-use Prim.Native.Nat.{ℕ, zero, suc, ◌+◌, ◌≤◌, ◌<◌}
+use mathlib.Core.Path.{◌≡◌, refl, sym, ap, ◌∙◌}
+use mathlib.Core.Bool.{Bool, true, false}
+use mathlib.Core.List.{List, ◌∷◌}
+use mathlib.Core.Option.{Option, some}
+use Prim.Native.Nat.{ℕ, ◌+◌, ◌≤◌, ◌<◌}
 use native.Mathlib.Omega.{arith}
 use native.Mathlib.Decide.{dec_lt}
 use borrow.Author.Tests.{eq-eqb, ne_eqb, leb-true, le-leb, lt-leb}
-use lib.Dec.{eqb, leb}
+use lib.Dec.{leb}
 use Rattle.sets.proofs.Tests.{yes_and}
 use lib.ListN.{length, get_or, drop, drop_of_length-le}
-use lib.Seq.{get_or-drop, drop-drop}
+use lib.Seq.{drop-drop}
 use Rattle.grammar.specs.Pieces.{between, is_capital, is_small, is_digit, is_space, blank, letter, variable_bytes, is_variable}
 use Rattle.grammar.specs.Pieces.{Piece}
 use Rattle.grammar.specs.Parser.{run, item_from, constant_from, fixed, first_of, candidate, checked, next_front, next_at}
 use Rattle.text.specs.Tokens.{variable_number, shown, token_at, item_token, number_token, fixed_token}
 use Rattle.text.specs.declared.Token.{Token}
 use Rattle.text.specs.declared.Token.TheVariants.{AtEnd}
-use Rattle.grammar.proofs.Bytes.{small_not_capital}
 use Rattle.text.proofs.Scanning.{drop_inside}
 use Rattle.text.proofs.Marks.{headed, next_byte, outside}
 use Rattle.text.proofs.Tokens.{item_token_fact, constant_token_fact}

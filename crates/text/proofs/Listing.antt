@@ -4,21 +4,19 @@
 use mathlib.Core.Path.{◌≡◌, refl, sym, ap, ap₂, subst, ◌∙◌}
 use mathlib.Core.Bool.{true}
 use mathlib.Core.List.{List, [], ◌∷◌, ◌++◌, append_assoc}
-use mathlib.Core.Option.{none}
 use Prim.Native.Nat.{ℕ, zero, suc, ◌+◌, ◌-◌, ◌*◌, ◌≤◌, ◌<◌}
 use native.Mathlib.Omega.{arith}
-use types.Run.{OneOf}
 use lib.ListN.{length, length-append}
-use Rattle.grammar.specs.Pieces.{Item, Comma, word, item}
-use Rattle.grammar.specs.Parser.{found, next_at, word_number, behind, Parsed, failed, parsed, item_of, ◌and_then◌, items_at}
+use Rattle.grammar.specs.Pieces.{Item, Comma, word}
+use Rattle.grammar.specs.Parser.{found, next_at, word_number, Parsed, failed, parsed, item_of, ◌and_then◌, items_at}
 use Rattle.text.specs.Tokens.{variable_number, name_number, token_at}
-use Rattle.text.specs.Programs.{item_words, written, after_token, no_items, ItemsParsed, ItemsShow}
+use Rattle.text.specs.Programs.{item_words, written, after_token, no_items, ItemsShow}
 use Rattle.text.specs.declared.Token.{Token}
 use Rattle.text.specs.declared.Token.TheVariants.{ItemAt}
 use Rattle.text.specs.declared.Items.{Items}
 use Rattle.grammar.proofs.Nexts.{Within, found_within}
 use Rattle.grammar.proofs.Complete.{takes_word, if_some, if_none, then_parsed}
-use Rattle.text.proofs.Comparing.{tag, TheItem, the_item, no_item, then_failed}
+use Rattle.text.proofs.Comparing.{NoItem, TheItem, the_item, no_item, then_failed}
 use Rattle.text.proofs.Writing.{written_length, written_both, after_none, after_some}
 
 -- ---- one thing behind another
@@ -90,7 +88,7 @@ module _ (s : List ℕ) (at : ℕ) (before : List ℕ) where
 
     module _ (t : Token) (e : t ≡ token_at s here) where
       -- no item stands there
-      pub going_fails : {r : Items} → r ≡ no_items → OneOf (0 ∷ 1 ∷ 2 ∷ 3 ∷ 5 ∷ []) (tag t)
+      pub going_fails : {r : Items} → r ≡ no_items → NoItem t
           → ItemsShow s at before out r (items_at (length s) s at)
       unfolding ItemsShow token_at items_at
       going_fails {r} f k =
@@ -100,7 +98,7 @@ module _ (s : List ℕ) (at : ℕ) (before : List ℕ) where
           none_there zero = refl
           none_there (suc j) =
               then_failed _ (no_item (next_at s here)
-              (subst (λ (u : Token). OneOf (0 ∷ 1 ∷ 2 ∷ 3 ∷ 5 ∷ []) (tag u)) e k))
+              (subst NoItem e k))
 
       module _ (v m mid : ℕ) (f : t ≡ ItemAt v m mid) where
         there : TheItem (next_at s here) v m mid

@@ -2,25 +2,25 @@
 -- In order: a word; the words and marks; the operators; no piece; items and constants at their returns.
 -- Assumes nothing.
 use mathlib.Core.Path.{◌≡◌, refl, sym, ap, ap₂, ◌∙◌, subst}
-use mathlib.Core.Bool.{Bool, true, false, not, ◌&&◌, ◌||◌, cond}
-use mathlib.Core.List.{List, [], ◌∷◌, ◌++◌}
+use mathlib.Core.Bool.{Bool, true, false, not, ◌&&◌, cond}
+use mathlib.Core.List.{List, [], ◌∷◌}
 use mathlib.Core.Option.{Option, none, some}
-use Prim.Native.Nat.{ℕ, zero, suc, ◌+◌, ◌-◌, ◌*◌, ◌≤◌, ◌<◌}
+use Prim.Native.Nat.{ℕ, ◌+◌, ◌-◌, ◌≤◌, ◌<◌}
 use native.Mathlib.Omega.{arith}
-use borrow.Author.Tests.{leb-true, lt-leb, le-leb, eqb-true, eq-eqb, ne_eqb, not-true, not-false}
-use lib.Dec.{leb, eqb}
+use borrow.Author.Tests.{lt-leb, le-leb, eq-eqb, ne_eqb}
+use lib.Dec.{eqb}
 use lib.ListN.{length, get_or, take, drop, get_or-eq_default}
 use lib.Seq.{get_or-drop}
-use mathlib.Core.Logic.{◌⊎◌, ⊎_elim}
+use mathlib.Core.Logic.{⊎_elim}
 use Rattle.sets.proofs.Numbers.{eq_or_ne}
 use Rattle.grammar.specs.Pieces.{between, is_capital, is_small, is_digit, is_letter_or_digit, last_of, Word, Retrieve, Where}
-use Rattle.grammar.specs.Pieces.{Not, And, Or, Opening, Closing, Comma, Piece, word, word_bytes, operator_bytes, bytes_of}
+use Rattle.grammar.specs.Pieces.{Not, And, Or, Piece, word, word_bytes, operator_bytes, bytes_of}
 use Rattle.grammar.specs.Pieces.{is_piece, apart, operator, Less, Greater}
-use Rattle.grammar.specs.Parser.{run, begins, fixed, first_of, stands, Next, found, wrong, checked, word_number}
+use Rattle.grammar.specs.Parser.{run, begins, fixed, first_of, stands, found, wrong, checked, word_number}
 use Rattle.text.specs.Tokens.{operator_number, name_number, magnitude, token_of, shown, word_token, item_token}
 use Rattle.text.specs.Tokens.{number_token, fixed_token}
 use Rattle.text.specs.declared.Token.{Token}
-use Rattle.text.specs.declared.Token.TheVariants.{AtEnd, NoPiece, WordAt, OperatorAt, ItemAt, NumberAt}
+use Rattle.text.specs.declared.Token.TheVariants.{NoPiece, WordAt, OperatorAt, ItemAt, NumberAt}
 use Rattle.text.proofs.Scanning.{drop_inside}
 
 -- ---- a word that ends in a letter

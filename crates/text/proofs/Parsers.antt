@@ -4,8 +4,8 @@
 use mathlib.Core.Path.{◌≡◌, refl, sym, ap, ap₂, subst, ◌∙◌}
 use mathlib.Core.Bool.{Bool, true, false, not}
 use mathlib.Core.List.{List, [], ◌∷◌, ◌++◌}
-use mathlib.Core.Option.{Option, none, some}
-use Prim.Native.Nat.{ℕ, zero, suc, ◌+◌, ◌-◌, ◌*◌, ◌≤◌, ◌<◌, max}
+use mathlib.Core.Option.{none, some}
+use Prim.Native.Nat.{ℕ, zero, suc, ◌+◌, ◌-◌, ◌*◌, ◌≤◌, ◌<◌}
 use native.Mathlib.Nat.{zero-max}
 use native.Mathlib.Numerals.{add-one}
 use native.Mathlib.Omega.{arith}
@@ -13,7 +13,7 @@ use borrow.Author.Tests.{not-true, not-false}
 use lib.ListN.{length, length-append}
 use Rattle.sets.proofs.Tests.{yes_no}
 use Rattle.grammar.specs.Pieces.{word, And, Or, Not, Opening, Closing}
-use Rattle.grammar.specs.Grammar.{Condition, negated, both, either}
+use Rattle.grammar.specs.Grammar.{negated, both, either}
 use Rattle.grammar.specs.Parser.{found, next_at, word_number, behind, Parsed, failed, parsed, ◌and_then◌, if_word, Deep}
 use Rattle.grammar.specs.Parser.{comparison_at, or_at, or_more, and_at, and_more, not_at, primary_at, condition_at}
 use Rattle.text.specs.Tokens.{token_at}
@@ -24,8 +24,8 @@ use Rattle.text.specs.declared.Compared.{Compared}
 use Rattle.grammar.proofs.Nexts.{Within, found_within}
 use Rattle.grammar.proofs.Complete.{takes_word, if_some, if_none, then_parsed}
 use Rattle.text.proofs.Comparing.{then_failed}
-use Rattle.text.proofs.Writing.{written_length, written_both, after_none, after_some}
-use Rattle.text.proofs.Chains.{nothing_not, shows_ok, shows_next, shows_depth, shows_end, shows_length, shows_same}
+use Rattle.text.proofs.Writing.{written_both, after_none, after_some}
+use Rattle.text.proofs.Chains.{nothing_not, shows_ok, shows_next, shows_depth, shows_end, shows_same}
 use Rattle.text.proofs.Chains.{word_value, word_words, none_value, none_words, Chain, Round}
 
 -- ---- the closing parenthesis

@@ -1,26 +1,24 @@
 -- Tokens: what the code finds at a position is the token of the piece there.
 -- In order: words; runs; items; constants; operators and words by their first byte; the token at a position.
 -- Assumes nothing.
-use mathlib.Core.Path.{◌≡◌, refl, sym, ap, ap₂, ◌∙◌, subst}
-use mathlib.Core.Bool.{Bool, true, false, not, ◌&&◌, ◌||◌, cond}
+use mathlib.Core.Path.{◌≡◌, refl, sym, ap, ◌∙◌, subst}
+use mathlib.Core.Bool.{Bool, true, false, not, ◌&&◌, cond}
 use mathlib.Core.List.{List, [], ◌∷◌, ◌++◌, append_assoc}
-use mathlib.Core.Option.{Option, none, some}
-use Prim.Native.Nat.{ℕ, zero, suc, ◌+◌, ◌-◌, ◌*◌, ◌≤◌, ◌<◌}
-use native.Mathlib.Nat.{add_assoc}
+use mathlib.Core.Option.{some}
+use Prim.Native.Nat.{ℕ, zero, suc, ◌+◌, ◌≤◌}
 use native.Mathlib.Omega.{arith}
-use borrow.Author.Tests.{leb-true, lt-leb, le-leb, eqb-true, eq-eqb, ne_eqb, not-true, not-false}
-use lib.Dec.{leb, eqb}
-use lib.ListN.{length, get_or, take, drop, length-append, length-drop, take-append-drop, drop_of_length-le}
-use lib.Seq.{drop-cons, get_or-drop, length-take-le, drop-append_seam, drop-drop}
-use Rattle.sets.proofs.Tests.{yes_or_no, yes_no, yes_and, and_yes}
-use Rattle.grammar.specs.Pieces.{between, is_capital, is_small, is_digit, is_space, is_letter_or_digit, every, last_of}
-use Rattle.grammar.specs.Pieces.{Variable, blank, letter, Item, Constant, number, Piece, item, constant, bytes_of}
+use borrow.Author.Tests.{leb-true, not-true, not-false}
+use lib.Dec.{leb}
+use lib.ListN.{length, get_or, take, drop, length-append, take-append-drop}
+use lib.Seq.{get_or-drop, length-take-le, drop-append_seam}
+use Rattle.sets.proofs.Tests.{and_yes}
+use Rattle.grammar.specs.Pieces.{is_capital, is_digit, is_letter_or_digit, every, last_of}
+use Rattle.grammar.specs.Pieces.{Variable, blank, letter, number, Piece, item, constant, bytes_of}
 use Rattle.grammar.specs.Pieces.{variable_bytes, constant_bytes, is_name, are_digits, is_variable, is_constant, is_piece, apart}
-use Rattle.grammar.specs.Parser.{run, begins, item_from, constant_from, candidate, stands, Next, found, wrong, checked}
+use Rattle.grammar.specs.Parser.{run, begins, item_from, constant_from, stands, found, wrong, checked}
 use Rattle.text.specs.Tokens.{variable_number, name_number, magnitude, constant_token, token_of, shown, word_token}
 use Rattle.text.specs.Tokens.{item_token, number_token}
-use Rattle.text.specs.declared.Token.{Token}
-use Rattle.text.specs.declared.Token.TheVariants.{AtEnd, NoPiece, WordAt, OperatorAt, ItemAt, NumberAt}
+use Rattle.text.specs.declared.Token.TheVariants.{NoPiece, WordAt, ItemAt, NumberAt}
 use Rattle.grammar.proofs.Bytes.{run_yes, run_no, capital_counts, digit_counts, every_last, begins_append}
 
 -- ---- words

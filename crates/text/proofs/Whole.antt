@@ -3,20 +3,19 @@
 -- Assumes nothing.
 use mathlib.Core.Path.{◌≡◌, refl, sym, ap, ap₂, subst, ◌∙◌}
 use mathlib.Core.Bool.{Bool, true, false, not}
-use mathlib.Core.List.{List, [], ◌∷◌, ◌++◌, append-nil}
+use mathlib.Core.List.{List, ◌++◌, append-nil}
 use mathlib.Core.Option.{Option, none, some}
-use Prim.Native.Nat.{ℕ, ◌+◌, ◌-◌, ◌*◌, ◌≤◌, ◌<◌}
+use Prim.Native.Nat.{ℕ, ◌+◌, ◌-◌, ◌*◌, ◌≤◌}
 use native.Mathlib.Omega.{arith}
 use borrow.Author.Tests.{not-true, not-false}
-use types.Run.{OneOf, miss}
 use lib.ListN.{length, length-append}
-use Rattle.sets.proofs.Tests.{yes_or_no, yes_no}
+use Rattle.sets.proofs.Tests.{yes_no}
 use Rattle.grammar.specs.Pieces.{Item, Constant, number, Retrieve, Where, Opening, Closing, word, operator, item, constant}
 use Rattle.grammar.specs.Grammar.{Reading}
 use Rattle.grammar.specs.Parser.{Next, at_end, wrong, found, next_at, word_number, behind, Parsed, failed, parsed, ◌and_then◌}
 use Rattle.grammar.specs.Parser.{if_word, items_at, or_at, condition_at, Deep, whole, conditioned, text_end, head_at, parse}
 use Rattle.text.specs.Tokens.{constant_token, token_of, shown, token_at}
-use Rattle.text.specs.Programs.{program, condition_words, is_conditional, item_words, written, nothing, ShowsParsed}
+use Rattle.text.specs.Programs.{program, condition_words, is_conditional, item_words, written, ShowsParsed}
 use Rattle.text.specs.Programs.{Shows, Gave, after_token, no_items, ItemsParsed, ItemsShow, no_text, is_at_end, text_if}
 use Rattle.text.specs.Programs.{reading_words, text_of, TextShows}
 use Rattle.text.specs.declared.Token.{Token}
@@ -26,16 +25,16 @@ use Rattle.text.specs.declared.Items.{Items}
 use Rattle.text.specs.declared.Text.{Text}
 use Rattle.grammar.proofs.Nexts.{Within, found_within}
 use Rattle.grammar.proofs.Complete.{takes_word, if_some, if_none, then_parsed}
-use Rattle.text.proofs.Comparing.{tag, then_failed}
+use Rattle.text.proofs.Comparing.{then_failed}
 use Rattle.text.proofs.Writing.{written_length, written_both, after_none, after_some}
-use Rattle.text.proofs.Chains.{nothing_not, shows_ok, shows_next, shows_depth, shows_end, shows_same, shows_none}
+use Rattle.text.proofs.Chains.{nothing_not, shows_next, shows_depth, shows_end, shows_same, shows_none}
 use Rattle.text.proofs.Listing.{words_long}
 
 -- ---- the end of a text
 
-pub not_at_end : (t : Token) → OneOf (1 ∷ 2 ∷ 3 ∷ 4 ∷ 5 ∷ []) (tag t) → false ≡ is_at_end t
+pub not_at_end : (t : Token) → (t ≡ AtEnd → ⊥) → false ≡ is_at_end t
 unfolding is_at_end
-not_at_end AtEnd h = absurd (miss (1 ∷ 2 ∷ 3 ∷ 4 ∷ 5 ∷ []) 0 tt h)
+not_at_end AtEnd h = absurd (h refl)
 not_at_end NoPiece h = refl
 not_at_end (WordAt v next) h = refl
 not_at_end (OperatorAt o next) h = refl

@@ -1,29 +1,25 @@
 -- Words written in their place, and the steps of a parser on what its callees gave.
 -- In order: words written; the word behind a position; a word more in a program.
 -- Assumes nothing.
-use mathlib.Core.Path.{◌≡◌, refl, sym, ap, ap₂, subst, ◌∙◌}
+use mathlib.Core.Path.{◌≡◌, refl, sym, ap, ap₂, ◌∙◌}
 use mathlib.Core.Bool.{Bool, true, false, not, cond}
 use mathlib.Core.List.{List, [], ◌∷◌, ◌++◌, append_assoc}
 use mathlib.Core.Option.{Option, none, some}
-use Prim.Native.Nat.{ℕ, zero, suc, ◌+◌, ◌-◌, ◌*◌, ◌≤◌, ◌<◌, max}
+use Prim.Native.Nat.{ℕ, ◌+◌, ◌≤◌, ◌<◌, max}
 use native.Mathlib.Numerals.{add-one}
 use native.Mathlib.Omega.{arith}
-use borrow.Author.Tests.{eqb-true, eq-eqb, ne_eqb, not-true, not-false}
-use types.Run.{OneOf, miss}
-use denote.Enum.Declared.{tag_of}
+use borrow.Author.Tests.{eq-eqb, ne_eqb, not-true, not-false}
 use lib.Dec.{eqb}
 use lib.ListN.{length, take, drop, set, length-append, length-drop}
 use lib.Seq.{take_at, drop_at, length-take-le, drop-drop, set_split}
-use Rattle.sets.proofs.Tests.{yes_or_no, yes_no}
-use Rattle.grammar.specs.Pieces.{Word, Piece, word, operator, item, constant, Constant, number}
+use Rattle.grammar.specs.Pieces.{Word, word, operator, item, constant, Constant, number}
 use Rattle.grammar.specs.Parser.{Next, at_end, wrong, found, next_at, word_number, behind}
 use Rattle.text.specs.Tokens.{constant_token, token_of, shown, token_at}
 use Rattle.text.specs.Programs.{written, nothing, after_token, with_word, word_written}
 use Rattle.text.specs.declared.Token.{Token}
-use Rattle.text.specs.contracts.Token.{the_type}
 use Rattle.text.specs.declared.Token.TheVariants.{AtEnd, NoPiece, WordAt, OperatorAt, ItemAt, NumberAt}
 use Rattle.text.specs.declared.Parse.{Parse}
-use Rattle.grammar.proofs.Nexts.{Within, found_within}
+use Rattle.grammar.proofs.Nexts.{found_within}
 use Rattle.grammar.proofs.Sound.{behind_word}
 
 -- ---- words written
@@ -87,11 +83,11 @@ module _ (u t : Token) (n : ℕ) (g : u ≡ t) where
   unfolding after_token
   after_no v next e h = sym (ap (after_token n) (sym g ∙ e) ∙ rw (ne_eqb v n h))
 
-pub after_other : (t : Token) (n : ℕ) → OneOf (0 ∷ 1 ∷ 3 ∷ 4 ∷ 5 ∷ []) (tag_of the_type t) → 0 ≡ after_token n t
+pub after_other : (t : Token) (n : ℕ) → ((v next : ℕ) → t ≡ WordAt v next → ⊥) → 0 ≡ after_token n t
 unfolding after_token
 after_other AtEnd n h = refl
 after_other NoPiece n h = refl
-after_other (WordAt v next) n h = absurd (miss (0 ∷ 1 ∷ 3 ∷ 4 ∷ 5 ∷ []) 2 tt h)
+after_other (WordAt v next) n h = absurd (h _ _ refl)
 after_other (OperatorAt o next) n h = refl
 after_other (ItemAt v m next) n h = refl
 after_other (NumberAt b m next) n h = refl

@@ -2,7 +2,7 @@
 -- In order: the numbers of operators, variables, names and constants; the token of a piece; the token at a position;
 -- the parts of it that the code works out one by one.
 -- Assumes nothing.
-use Rattle.std.specs.Prelude.{Bool, true, false, not, ◌&&◌, cond, List, [], ◌∷◌, ℕ, ◌+◌, ◌-◌, ◌*◌, ◌^◌, min, leb, length, get_or, take}
+use Rattle.std.specs.Prelude.{Bool, not, ◌&&◌, cond, List, [], ◌∷◌, ℕ, ◌+◌, ◌-◌, ◌*◌, ◌^◌, min, leb, length, get_or, take}
 use Rattle.grammar.specs.Pieces.{is_capital, is_digit, is_letter_or_digit, Operator, Equal, Unequal, Less, AtMost, Greater}
 use Rattle.grammar.specs.Pieces.{AtLeast, Variable, blank, letter, Constant, number, Piece, word, operator, item}
 use Rattle.grammar.specs.Pieces.{constant}

@@ -10,4 +10,4 @@ unfolding is_at_end
 returns-in-AtEnd c = sym (ap is_at_end (sym c.token_at-t.ensures ∙ c.in-AtEnd.is))
 
 pub returns-in_default : goal.returns-in_default
-returns-in_default c = not_at_end _ ? ∙ ap is_at_end c.token_at-t.ensures
+returns-in_default c = not_at_end _ c.in_default.not-AtEnd ∙ ap is_at_end c.token_at-t.ensures

@@ -1,7 +1,6 @@
 use Rattle.text.proofs.Listing.{second_place, more_same, comma_within, going_next}
 use Rattle.text.proofs.Listing.{going_start, going_long, going_fails, mid_within, first_room, going_last}
 use native.Mathlib.Omega.{arith}
-use Prim.Native.Nat.{◌-◌}
 use mathlib.Core.Path.{refl}
 use Rattle.text.proofs.items_at.Goals as goal
 
@@ -15,7 +14,7 @@ pub shape_of-out-in_default : goal.shape_of-out-in_default
 shape_of-out-in_default c = going_long _ _ _ c.loop-letter.invariant c.requires.1
 
 pub returns-in_default : goal.returns-in_default
-returns-in_default c = going_fails _ _ _ c.loop-letter.invariant c.requires.1 _ c.token_at-t.ensures c.no_items.ensures ?
+returns-in_default c = going_fails _ _ _ c.loop-letter.invariant c.requires.1 _ c.token_at-t.ensures c.no_items.ensures c.in_default.not-ItemAt
 
 pub put-place-requires : goal.put-place-requires
 put-place-requires c = first_room _ _ _ c.loop-letter.invariant c.requires.1 _ c.token_at-t.ensures _ _ _ c.in-ItemAt.is

@@ -2,7 +2,6 @@
 -- digits left.
 -- Assumes nothing.
 use Rattle.text.proofs.Scanning.{valuing_start, valuing_times, valuing_fits, valuing_next, valuing_ends}
-use Prim.Native.Nat.{◌-◌}
 use borrow.Author.Rules.{rules}
 use Rattle.text.proofs.magnitude.Goals as goal
 

@@ -2,7 +2,6 @@
 -- (`Naming`). The measure: the letters left.
 -- Assumes nothing.
 use Rattle.text.proofs.Scanning.{naming_start, naming_times, naming_fits, naming_next, naming_ends}
-use Prim.Native.Nat.{◌-◌}
 use borrow.Author.Rules.{rules}
 use Rattle.text.proofs.name_number.Goals as goal
 

@@ -2,7 +2,6 @@
 -- the bytes left.
 -- Assumes nothing.
 use Rattle.text.proofs.Scanning.{running_start, running_next, running_stops, running_ends}
-use Prim.Native.Nat.{◌-◌}
 use borrow.Author.Rules.{rules}
 use Rattle.text.proofs.run_end.Goals as goal
 

@@ -2,7 +2,6 @@
 -- (`Matching`). The measure: the bytes left.
 -- Assumes nothing.
 use Rattle.text.proofs.Scanning.{no_room, matching_start, matching_next, matching_fails, matching_ends}
-use Prim.Native.Nat.{◌-◌}
 use borrow.Author.Rules.{rules}
 use Rattle.text.proofs.stands.Goals as goal
 
