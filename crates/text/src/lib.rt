@@ -161,6 +161,7 @@ fn magnitude(s: &[u8], from: usize, end: usize) -> u64
 }
 
 // The item whose name starts at a position, where one stands, of the variable with a letter.
+#[tactic(auto, using(crate::proofs::Marks::item_long))]
 fn item(s: &[u8], from: usize, letter: u8) -> Token
     requires { from ≤ length s.now }
     ensures { result ≡ item_token letter (drop from s.now) from }

@@ -1,14 +1,11 @@
 -- `text::item` meets its contract. Its name ends where the run of capital letters does (`item_is`).
 -- Assumes nothing.
-use Rattle.text.proofs.Marks.{item_none, item_long, item_goes, item_is}
+use Rattle.text.proofs.Marks.{item_none, item_goes, item_is}
 use borrow.Author.Rules.{rules}
 use Rattle.text.proofs.item.Goals as goal
 
 pub returns-then-end-from : goal.returns-then-end-from
 returns-then-end-from c = search (rules, item_none)
-
-pub returns-then-end-from-gt12 : goal.returns-then-end-from-gt12
-returns-then-end-from-gt12 c = search (rules, item_long)
 
 pub returns-then-goes_on : goal.returns-then-goes_on
 returns-then-goes_on c = search (rules, item_goes)
