@@ -11,7 +11,8 @@ pub after-end-requires : goal.after-end-requires
 after-end-requires c = closed_inside c.args.s.now c.args.c c.requires c.if-not-c.false
 
 pub returns-then-end-eq0 : goal.returns-then-end-eq0
-returns-then-end-eq0 c = closed_missing _ _ c.if-not-c.false _ c.after-end.ensures _ c.nothing-then-end-eq0.ensures c.if-end-eq0.true
+returns-then-end-eq0 c =
+    closed_missing _ _ c.if-not-c.false _ c.after-end.ensures _ c.nothing-then-end-eq0.ensures c.if-end-eq0.true
 
 pub overflow_add-result : goal.overflow_add-result
 overflow_add-result c = search (rules, closed_depth c.args.s.now c.args.c c.requires c.if-not-c.false)

@@ -37,4 +37,6 @@ pub returns-in-61 : goal.returns-in-61
 returns-in-61 c = search (rules, fixed_equal)
 
 pub returns-in_default : goal.returns-in_default
-returns-in_default c = fixed_other c.args.s.now c.args.at c.requires _ refl (search rules) (search rules) (search rules) (search rules) (search rules) (search rules) (search rules) (search rules) (search rules) (search rules) (search rules)
+returns-in_default c =
+    fixed_other c.args.s.now c.args.at c.requires _ refl (search rules) (search rules) (search rules) (search rules)
+    (search rules) (search rules) (search rules) (search rules) (search rules) (search rules) (search rules)

@@ -1,3 +1,6 @@
+-- `text::items_at` meets its contract. The invariant: some items are done and the rest stands from `here` on (`Going`). The
+-- measure: the bytes left.
+-- Assumes nothing.
 use Rattle.text.proofs.Listing.{second_place, more_same, comma_within, going_next}
 use Rattle.text.proofs.Listing.{going_start, going_long, going_fails, mid_within, first_room, going_last}
 use native.Mathlib.Omega.{arith}
@@ -14,25 +17,47 @@ pub shape_of-out-in_default : goal.shape_of-out-in_default
 shape_of-out-in_default c = going_long _ _ _ c.loop-letter.invariant c.requires.1
 
 pub returns-in_default : goal.returns-in_default
-returns-in_default c = going_fails _ _ _ c.loop-letter.invariant c.requires.1 _ c.token_at-t.ensures c.no_items.ensures c.in_default.not-ItemAt
+returns-in_default c =
+    going_fails _ _ _ c.loop-letter.invariant c.requires.1 _ c.token_at-t.ensures c.no_items.ensures
+    c.in_default.not-ItemAt
 
 pub put-place-requires : goal.put-place-requires
 put-place-requires c = first_room _ _ _ c.loop-letter.invariant c.requires.1 _ c.token_at-t.ensures _ _ _ c.in-ItemAt.is
 
 pub put-requires : goal.put-requires
-put-requires c = second_place _ _ _ c.loop-letter.invariant c.requires.1 _ c.token_at-t.ensures _ _ _ c.in-ItemAt.is _ c.put-place.ensures.out_after c.put-place.ensures.value
+put-requires c =
+    second_place _ _ _ c.loop-letter.invariant c.requires.1 _ c.token_at-t.ensures _ _ _ c.in-ItemAt.is _
+    c.put-place.ensures.out_after c.put-place.ensures.value
 
 pub after-next-requires : goal.after-next-requires
-after-next-requires c = (mid_within _ _ _ c.loop-letter.invariant c.requires.1 _ c.token_at-t.ensures _ _ _ c.in-ItemAt.is).inside
+after-next-requires c =
+    (mid_within _ _ _ c.loop-letter.invariant c.requires.1 _ c.token_at-t.ensures _ _ _ c.in-ItemAt.is).inside
 
 pub shape_of-out-then-next-eq0 : goal.shape_of-out-then-next-eq0
-shape_of-out-then-next-eq0 c = more_same _ _ _ c.loop-letter.invariant c.requires.1 _ c.token_at-t.ensures _ _ _ c.in-ItemAt.is c.wide.ensures.0 c.put-place.ensures.out_after c.put-place.ensures.value c.put.ensures.out_after
+shape_of-out-then-next-eq0 c =
+    more_same _ _ _ c.loop-letter.invariant c.requires.1 _ c.token_at-t.ensures _ _ _ c.in-ItemAt.is c.wide.ensures.0
+    c.put-place.ensures.out_after c.put-place.ensures.value c.put.ensures.out_after
 
 pub returns-then-next-eq0 : goal.returns-then-next-eq0
-returns-then-next-eq0 c = going_last _ _ _ c.loop-letter.invariant c.requires.1 _ c.token_at-t.ensures _ _ _ c.in-ItemAt.is _ c.after-next.ensures c.wide.ensures.0 c.put-place.ensures.out_after c.put-place.ensures.value c.put.ensures.out_after refl c.if-next-eq0.true
+returns-then-next-eq0 c =
+    going_last _ _ _ c.loop-letter.invariant c.requires.1 _ c.token_at-t.ensures _ _ _ c.in-ItemAt.is _
+    c.after-next.ensures c.wide.ensures.0 c.put-place.ensures.out_after c.put-place.ensures.value
+    c.put.ensures.out_after refl c.if-next-eq0.true
 
 pub loop-letter-smaller : goal.loop-letter-smaller
-loop-letter-smaller c = omega (arith, (mid_within _ _ _ c.loop-letter.invariant c.requires.1 _ c.token_at-t.ensures _ _ _ c.in-ItemAt.is).after, (comma_within _ _ _ c.loop-letter.invariant c.requires.1 _ c.token_at-t.ensures _ _ _ c.in-ItemAt.is _ c.after-next.ensures c.if-next-eq0.false).after, (comma_within _ _ _ c.loop-letter.invariant c.requires.1 _ c.token_at-t.ensures _ _ _ c.in-ItemAt.is _ c.after-next.ensures c.if-next-eq0.false).inside)
+loop-letter-smaller c =
+    omega (
+      arith,
+      (mid_within _ _ _ c.loop-letter.invariant c.requires.1 _ c.token_at-t.ensures _ _ _
+          c.in-ItemAt.is).after,
+      (comma_within _ _ _ c.loop-letter.invariant c.requires.1 _ c.token_at-t.ensures _ _ _
+          c.in-ItemAt.is _ c.after-next.ensures c.if-next-eq0.false).after,
+      (comma_within _ _ _ c.loop-letter.invariant
+          c.requires.1 _ c.token_at-t.ensures _ _ _ c.in-ItemAt.is _ c.after-next.ensures c.if-next-eq0.false).inside,
+    )
 
 pub loop-letter-preserved : goal.loop-letter-preserved
-loop-letter-preserved c = going_next _ _ _ c.loop-letter.invariant c.requires.1 _ c.token_at-t.ensures _ _ _ c.in-ItemAt.is _ c.after-next.ensures c.if-next-eq0.false c.wide.ensures.0 c.put-place.ensures.out_after c.put-place.ensures.value c.put.ensures.out_after refl
+loop-letter-preserved c =
+    going_next _ _ _ c.loop-letter.invariant c.requires.1 _ c.token_at-t.ensures _ _ _ c.in-ItemAt.is _
+    c.after-next.ensures c.if-next-eq0.false c.wide.ensures.0 c.put-place.ensures.out_after c.put-place.ensures.value
+    c.put.ensures.out_after refl

@@ -1,3 +1,5 @@
+-- `text::items_at`: some items are done and the rest stands from `here` on (`Going`). The measure: the bytes left.
+-- Assumes nothing.
 use Rattle.text.proofs.Listing.{Going}
 use Prim.Native.Nat.{◌-◌}
 use lib.ListN.{length}
