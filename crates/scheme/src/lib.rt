@@ -80,12 +80,10 @@ fn pass<'a>(
     ensures { result ≡ pass (pairs n left.now right.now) attributes }
 {
     let mut all = attributes;
-    let mut i: usize = 0;
-    while i < n {
+    for i in 0..n {
         if sets::within(left[i], all) {
             all = sets::union(all, right[i]);
         }
-        i += 1;
     }
     all
 }
@@ -116,13 +114,11 @@ pub fn family_of(sets: &[AttributeSet], objects: ObjectSet) -> SetList
 {
     let mut out = [0u32; reduction::PLACES];
     let mut count: usize = 0;
-    let mut k: u32 = 0;
-    while k < OBJECTS {
+    for k in 0..OBJECTS {
         if sets::has_object(objects, k) {
             out[count] = sets[k as usize];
             count += 1;
         }
-        k += 1;
     }
     SetList { sets: out, count }
 }
@@ -133,12 +129,10 @@ pub fn attributes_of(sets: &[AttributeSet], objects: ObjectSet) -> AttributeSet
     ensures { result ≡ attributes_of sets.now objects }
 {
     let mut all: AttributeSet = 0;
-    let mut k: u32 = 0;
-    while k < OBJECTS {
+    for k in 0..OBJECTS {
         if sets::has_object(objects, k) {
             all = sets::union(all, sets[k as usize]);
         }
-        k += 1;
     }
     all
 }
@@ -185,8 +179,7 @@ fn round<'a>(
 {
     let attributes = attributes_of(sets, held);
     let mut next: ObjectSet = 0;
-    let mut k: u32 = 0;
-    while k < OBJECTS {
+    for k in 0..OBJECTS {
         if sets::has_object(held, k) {
             next = sets::insert_object(next, k);
         } else if sets::has_object(objects, k) {
@@ -194,7 +187,6 @@ fn round<'a>(
                 next = sets::insert_object(next, k);
             }
         }
-        k += 1;
     }
     next
 }
@@ -243,13 +235,11 @@ fn grown_sets<'a>(
 {
     let mut out: [ObjectSet; MAXIMALS] = [0; MAXIMALS];
     let mut count: usize = 0;
-    let mut k: u32 = 0;
-    while k < OBJECTS {
+    for k in 0..OBJECTS {
         if sets::has_object(objects, k) {
             out[count] = grow(left, right, n, sets, objects, k);
             count += 1;
         }
-        k += 1;
     }
     ObjectList { sets: out, count }
 }
@@ -260,18 +250,15 @@ fn goes_for_another(list: &[ObjectSet], i: usize) -> bool
     ensures { result ≡ goes list.now i (length list.now) }
 {
     let s = list[i];
-    let mut j: usize = 0;
-    while j < list.len() {
-        let t = list[j];
-        if sets::objects_within(s, t) {
+    for (j, t) in list.iter().enumerate() {
+        if sets::objects_within(s, *t) {
             if j < i {
                 return true;
             }
-            if !sets::objects_within(t, s) {
+            if !sets::objects_within(*t, s) {
                 return true;
             }
         }
-        j += 1;
     }
     false
 }
@@ -294,13 +281,11 @@ fn maximal_sets(grown: &[ObjectSet]) -> ObjectList
 {
     let mut out: [ObjectSet; MAXIMALS] = [0; MAXIMALS];
     let mut count: usize = 0;
-    let mut i: usize = 0;
-    while i < grown.len() {
+    for (i, s) in grown.iter().enumerate() {
         if is_kept(grown, i) {
-            out[count] = grown[i];
+            out[count] = *s;
             count += 1;
         }
-        i += 1;
     }
     ObjectList { sets: out, count }
 }
@@ -325,14 +310,7 @@ fn computed_sets<'a>(
 fn is_one(list: &[ObjectSet], s: ObjectSet) -> bool
     ensures { result ≡ is_one s list.now }
 {
-    let mut i: usize = 0;
-    while i < list.len() {
-        if list[i] == s {
-            return true;
-        }
-        i += 1;
-    }
-    false
+    list.contains(&s)
 }
 
 // How many of some computed sets count: none where only declared ones do.
@@ -363,12 +341,10 @@ fn some_cyclic<'a>(sets: &'a [AttributeSet], list: &'a [ObjectSet]) -> bool
     requires { OBJECTS ≤ length sets.now }
     ensures { result ≡ some_cyclic sets.now list.now }
 {
-    let mut i: usize = 0;
-    while i < list.len() {
-        if is_cyclic(sets, list[i]) {
+    for m in list {
+        if is_cyclic(sets, *m) {
             return true;
         }
-        i += 1;
     }
     false
 }
@@ -380,13 +356,11 @@ fn without_removed<'a>(list: &'a [ObjectSet], removed: &'a [ObjectSet]) -> Objec
 {
     let mut out: [ObjectSet; MAXIMALS] = [0; MAXIMALS];
     let mut count: usize = 0;
-    let mut i: usize = 0;
-    while i < list.len() {
-        if !is_one(removed, list[i]) {
-            out[count] = list[i];
+    for m in list {
+        if !is_one(removed, *m) {
+            out[count] = *m;
             count += 1;
         }
-        i += 1;
     }
     ObjectList { sets: out, count }
 }
@@ -398,13 +372,11 @@ fn with_declared(list: ObjectList, declared: &[ObjectSet]) -> ObjectList
 {
     let mut out = list.sets;
     let mut count = list.count;
-    let mut i: usize = 0;
-    while i < declared.len() {
-        if !is_one(&out[..count], declared[i]) {
-            out[count] = declared[i];
+    for m in declared {
+        if !is_one(&out[..count], *m) {
+            out[count] = *m;
             count += 1;
         }
-        i += 1;
     }
     ObjectList { sets: out, count }
 }
@@ -413,7 +385,7 @@ fn with_declared(list: ObjectList, declared: &[ObjectSet]) -> ObjectList
 fn at_most(count: usize, length: usize) -> usize
     ensures { result ≡ min count length }
 {
-    if count < length { count } else { length }
+    count.min(length)
 }
 
 // The computed maximal objects of a scheme.

@@ -1,5 +1,6 @@
 -- `scheme::pass` meets its contract. The invariant: the dependencies from `i` on, from what is gathered, give what all
--- of them give (`PassSoFar`). The measure: the dependencies left. Assumes nothing.
+-- of them give (`PassSoFar`). Assumes nothing.
+use native.Mathlib.Omega.{arith}
 use mathlib.Core.Path.{sym, ◌∙◌}
 use Rattle.scheme.proofs.Loops.{pass_start, pass_with, pass_past, pass_end}
 use Rattle.scheme.proofs.pass.Goals as goal
@@ -10,11 +11,11 @@ loop-i-init c = pass_start _ _ _ _
 
 pub loop-i-preserved : goal.loop-i-preserved
 loop-i-preserved c = elim c.if-within.branch [
-  | then-within w ↦ pass_with c.requires c.loop-i.invariant c.loop-i-test.true c.if-within.all
+  | then-within w ↦ pass_with c.requires c.loop-i.invariant (omega arith) c.if-within.all
       (sym c.within.ensures ∙ w.if-within.true) (w.all-is ∙ w.union-all.ensures)
-  | else-within w ↦ pass_past c.requires c.loop-i.invariant c.loop-i-test.true c.if-within.all
+  | else-within w ↦ pass_past c.requires c.loop-i.invariant (omega arith) c.if-within.all
       (sym c.within.ensures ∙ w.if-within.false) w.all-is
 ]
 
 pub returns : goal.returns
-returns c = pass_end c.loop-i.invariant c.loop-i-test.false
+returns c = pass_end c.loop-i.invariant (omega arith)
