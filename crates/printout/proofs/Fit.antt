@@ -3,19 +3,18 @@
 -- Not here: the rows (`Rows`).
 -- Assumes nothing.
 use mathlib.Core.Path.{◌≡◌, refl, sym, ap, subst, ◌∙◌}
-use mathlib.Core.Bool.{Bool, true, false, ◌&&◌}
+use mathlib.Core.Bool.{Bool, true, false}
 use mathlib.Core.List.{List, [], ◌∷◌}
 use mathlib.Core.Logic.{◌↔◌}
 use Prim.Native.Nat.{ℕ, zero, suc, ◌+◌, ◌*◌, ◌≤◌, ◌<◌}
 use native.Mathlib.Nat.{le_of_eq, lt_of_le_of_lt, mul-le-mul}
-use native.Mathlib.Numerals.{add-one}
 use native.Mathlib.Omega.{arith}
 use borrow.Author.Tests as Tests
 use mir.Syntax.{w64}
 use mir.Val.{Fits}
 use lib.Dec.{ltb, leb}
-use lib.ListN.{length, get_or, drop, replicate, drop_of_length-le, length-drop, length-replicate, get_or-replicate}
-use lib.Seq.{drop-cons, get_or-take, get_or-drop, length-take-le}
+use lib.ListN.{length, get_or, drop, replicate, length-drop, length-replicate, get_or-replicate}
+use lib.Seq.{get_or-take, get_or-drop, length-take-le}
 use Rattle.sets.proofs.Tests.{and_yes, yes_and, not_yes, yes_no}
 use Rattle.values.specs.Values.{missing, in_range}
 use Rattle.sorted.specs.Rows.{Row, rows_in}

@@ -1,15 +1,15 @@
 -- Bytes written in their place, one text behind the other.
 -- In order: texts written, a text of which a part is written, numbers, digits counted, cells.
 -- Assumes nothing.
-use mathlib.Core.Path.{◌≡◌, refl, sym, ap, ap₂, subst, ◌∙◌}
+use mathlib.Core.Path.{◌≡◌, refl, sym, ap, ap₂, ◌∙◌}
 use mathlib.Core.Bool.{Bool, true, false}
 use mathlib.Core.List.{List, [], ◌∷◌, ◌++◌, append_assoc, append-nil}
 use Prim.Native.Nat.{ℕ, ◌+◌, ◌-◌, ◌/◌, ◌%◌, ◌^◌, ◌≤◌, ◌<◌}
 use native.Mathlib.Nat.{add-zero}
 use native.Mathlib.Numerals.{add-one}
 use native.Mathlib.Omega.{arith}
-use lib.ListN.{length, take, drop, set, length-append, length-drop, take-append-drop, get_or, drop_of_length-le}
-use lib.Seq.{take_at, drop_at, length-take-le, drop-drop, set_split, drop-cons}
+use lib.ListN.{length, take, drop, set, length-append, length-drop, take-append-drop}
+use lib.Seq.{take_at, drop_at, length-take-le, drop-drop, set_split}
 use Rattle.values.specs.Values.{missing}
 use Rattle.printout.specs.Decimal.{decimal, value_text, cell_text}
 use Rattle.printout.specs.Printing.{written}

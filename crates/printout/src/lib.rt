@@ -246,7 +246,10 @@ fn row_fits(kinds: &[u8], row: &[u32]) -> bool
     requires { length kinds.now ≤ length row.now }
     ensures { result ≡ row_fits kinds.now row.now }
 {
-    kinds.iter().zip(row).all(|(kind, cell)| values::in_range(*kind, *cell))
+    kinds
+        .iter()
+        .zip(row)
+        .all(|(kind, cell)| values::in_range(*kind, *cell))
 }
 
 // Whether each cell of the first rows is in its kind's range.

@@ -4,7 +4,7 @@
 -- Assumes nothing.
 use mathlib.Core.Path.{◌≡◌, refl, sym, ap, ap₂, subst, ◌∙◌}
 use mathlib.Core.List.{List, [], ◌∷◌, ◌++◌, append-nil}
-use Prim.Native.Nat.{ℕ, zero, suc, ◌+◌, ◌-◌, ◌*◌, ◌^◌, ◌≤◌, ◌<◌}
+use Prim.Native.Nat.{ℕ, suc, ◌+◌, ◌-◌, ◌*◌, ◌^◌, ◌≤◌, ◌<◌}
 use native.Mathlib.Nat.{add-sub_cancel_left, sub-zero}
 use native.Mathlib.Omega.{arith}
 use lib.ListN.{length, get_or, take, drop, replicate, length-append, length-drop}
@@ -19,7 +19,7 @@ use Rattle.printout.proofs.Texts.{first_room, second_room, both_written}
 use Rattle.printout.proofs.Rows.{row_part, rows_front, rows_none}
 use Rattle.sheets.specs.Sheets.{blanks, field_of, fields_of, rest_of, line_of, head_line, row_line, foot_line}
 use Rattle.sheets.specs.Sheets.{row_lines, blank_lines, joined}
-use Rattle.sheets.proofs.Fields.{blanks_front, blanks_none, blanks_length, field_length, number_short}
+use Rattle.sheets.proofs.Fields.{blanks_length, field_length, number_short}
 use Rattle.sheets.proofs.Fields.{fields_left}
 use Rattle.sheets.proofs.Fields.{fields_front, fields_none, line_none, line_one, line_two}
 

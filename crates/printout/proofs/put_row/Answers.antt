@@ -1,6 +1,5 @@
 -- `printout::put_row` meets its contract. The invariant: the line is written before cell i (`Writing`).
 -- Assumes nothing.
-use native.Mathlib.Omega.{arith}
 use Rattle.printout.proofs.Rows.{cell_room, mark_room, mark_written, row_end}
 use Rattle.printout.proofs.Writing.{writing_start, writing_length}
 use Rattle.printout.proofs.put_row.Goals as goal

@@ -13,5 +13,5 @@ use Rattle.printout.proofs.row_fits.Goals as goal
 pub returns : goal.returns
 returns c =
     let h : (c.all.result ≡ true) ↔ ((j : ℕ) → j < length c.args.kinds.now
-        → in_range (get_or c.args.kinds.now j 0) (get_or c.args.row.now j 0) ≡ true) = search rules in
+    → in_range (get_or c.args.kinds.now j 0) (get_or c.args.row.now j 0) ≡ true) = search rules in
     row_decided c.args.kinds.now c.args.row.now c.requires h

@@ -19,8 +19,7 @@ loop-kind-preserved c =
     c.loop-kind.kind-iterator c.next.new.self c.next.result (search rules) (search rules) c.loop-kind.yielded_by (c.in-Some.kind, c.in-Some.cell) c.in-Some.is
     c.next.ensures.steps in
     subst (RowCounted c.args.kinds.now c.args.row.now _) (sym (length-append c.loop-kind.yielded _))
-    (row_counted_next c.args.kinds.now c.args.row.now c.loop-kind.invariant h c.requires.1
-    (
+    (row_counted_next c.args.kinds.now c.args.row.now c.loop-kind.invariant h c.requires.1 (
       c.cell_length.ensures.value ∙ ap₂ (λ (x y : ℕ). length (cell_text x y)) (k 0) (a 0),
       c.cell_length.ensures.inside,
     ))

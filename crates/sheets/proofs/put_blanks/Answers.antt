@@ -1,6 +1,5 @@
 -- `sheets::put_blanks` meets its contract: the part lent is filled (`blanks_written`).
 -- Assumes nothing.
-use borrow.Author.Rules.{rules}
 use native.Mathlib.Omega.{arith}
 use Rattle.sheets.proofs.Fields.{blanks_length}
 use Rattle.sheets.proofs.Putting.{blanks_written}

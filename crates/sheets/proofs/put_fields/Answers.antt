@@ -2,14 +2,11 @@
 -- columns each.
 -- Assumes nothing.
 use mathlib.Core.List.{[], ◌∷◌}
-use Prim.Native.Nat.{ℕ}
-use lib.ListN.{length, length-append}
+use lib.ListN.{length-append}
 use native.Mathlib.Omega.{arith}
 use borrow.Author.Rules.{rules}
 use Rattle.std.proofs.lemmas.Slice.Zip.{zip_turn, zip_end}
-use Rattle.printout.specs.Decimal.{cell_text}
 use Rattle.printout.proofs.Writing.{writing_start}
-use Rattle.sheets.specs.Sheets.{field_of}
 use Rattle.sheets.proofs.Putting.{field_room, fields_next, fields_end}
 use Rattle.sheets.proofs.put_fields.Goals as goal
 
