@@ -62,12 +62,8 @@ fn put_text(out: &mut [u8], at: usize, text: &[u8]) -> usize
     ensures value { result ≡ at + length text.now }
     ensures out_after { out.new ≡ written at text.now out.old }
 {
-    let mut end = at;
-    let mut i: usize = 0;
-    while i < text.len() {
-        end = put_byte(out, end, text[i]);
-        i += 1;
-    }
+    let end = at + text.len();
+    out[at..end].copy_from_slice(text);
     end
 }
 
@@ -98,7 +94,7 @@ fn put_words(out: &mut [u8], at: usize, words: &[u8], x: usize) -> usize
 fn has_minus(kind: u8, cell: u32) -> bool
     ensures { result ≡ (eqb kind 1 && leb (2 ^ 31) cell) }
 {
-    if kind == 1 { 2147483648 <= cell } else { false }
+    kind == 1 && 2147483648 <= cell
 }
 
 // How many bytes the text of a value has.
@@ -162,11 +158,9 @@ fn row_length(kinds: &[u8], row: &[u32]) -> usize
     ensures value { result ≡ length (row_line kinds.now row.now) }
     ensures inside { result ≤ 96 }
 {
-    let mut n: usize = 0;
-    let mut i: usize = 0;
-    while i < kinds.len() {
-        n += cell_length(kinds[i], row[i]) + 1;
-        i += 1;
+    let mut n = 0;
+    for (kind, cell) in kinds.iter().zip(row) {
+        n += cell_length(*kind, *cell) + 1;
     }
     n
 }
@@ -180,11 +174,9 @@ fn put_row(out: &mut [u8], at: usize, kinds: &[u8], row: &[u32]) -> usize
         ≡ written at (row_line kinds.now row.now) out.old }
 {
     let mut end = at;
-    let mut i: usize = 0;
-    while i < kinds.len() {
-        end = put_cell(out, end, kinds[i], row[i]);
+    for (i, kind) in kinds.iter().enumerate() {
+        end = put_cell(out, end, *kind, row[i]);
         end = put_byte(out, end, mark(i, kinds.len()));
-        i += 1;
     }
     end
 }
@@ -198,13 +190,9 @@ fn rows_length(kinds: &[u8], cells: &[u32], rows: usize) -> usize
     ensures inside { result ≤ 96 * 999_999_999_999 }
 {
     let w = kinds.len();
-    let mut from: usize = 0;
-    let mut left = rows;
-    let mut n: usize = 0;
-    while 0 < left {
-        n += row_length(kinds, &cells[from..from + w]);
-        from += w;
-        left -= 1;
+    let mut n = 0;
+    for i in 0..rows {
+        n += row_length(kinds, &cells[i * w..i * w + w]);
     }
     n
 }
@@ -221,12 +209,8 @@ fn put_rows(out: &mut [u8], at: usize, kinds: &[u8], cells: &[u32], rows: usize)
 {
     let w = kinds.len();
     let mut end = at;
-    let mut from: usize = 0;
-    let mut left = rows;
-    while 0 < left {
-        end = put_row(out, end, kinds, &cells[from..from + w]);
-        from += w;
-        left -= 1;
+    for i in 0..rows {
+        end = put_row(out, end, kinds, &cells[i * w..i * w + w]);
     }
     end
 }
@@ -254,14 +238,7 @@ fn put_head(out: &mut [u8], serial: u32, rows: usize) -> usize
 fn all_known(kinds: &[u8]) -> bool
     ensures { result ≡ all_known kinds.now }
 {
-    let mut i: usize = 0;
-    while i < kinds.len() {
-        if 3 < kinds[i] {
-            return false;
-        }
-        i += 1;
-    }
-    true
+    kinds.iter().all(|kind| *kind < 4)
 }
 
 // Whether each cell of a row is in its kind's range.
@@ -269,14 +246,10 @@ fn row_fits(kinds: &[u8], row: &[u32]) -> bool
     requires { length kinds.now ≤ length row.now }
     ensures { result ≡ row_fits kinds.now row.now }
 {
-    let mut i: usize = 0;
-    while i < kinds.len() {
-        if !values::in_range(kinds[i], row[i]) {
-            return false;
-        }
-        i += 1;
-    }
-    true
+    kinds
+        .iter()
+        .zip(row)
+        .all(|(kind, cell)| values::in_range(*kind, *cell))
 }
 
 // Whether each cell of the first rows is in its kind's range.
@@ -286,14 +259,10 @@ fn rows_fit(kinds: &[u8], cells: &[u32], rows: usize) -> bool
         (rows_in (length kinds.now) rows cells.now) }
 {
     let w = kinds.len();
-    let mut from: usize = 0;
-    let mut left = rows;
-    while 0 < left {
-        if !row_fits(kinds, &cells[from..from + w]) {
+    for i in 0..rows {
+        if !row_fits(kinds, &cells[i * w..i * w + w]) {
             return false;
         }
-        from += w;
-        left -= 1;
     }
     true
 }
