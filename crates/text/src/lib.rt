@@ -2,6 +2,7 @@
 #![tactic(auto)]
 
 ghost use Rattle.std.specs.Prelude.{◌≡◌, true, false, cond, [], ◌∷◌, eqb, ◌+◌, ◌-◌, ◌^◌, ◌*◌, ◌≤◌, ◌<◌, min, max, length, get_or, take, drop};
+ghost use Rattle.std.specs.List.{prefix_len};
 ghost use Rattle.grammar.specs.Pieces.{between, is_letter_or_digit};
 ghost use Rattle.grammar.specs.Parser.{run, begins};
 ghost use Rattle.text.specs.Programs.{after_token, nothing, written, with_word, word_written, sign_word};
@@ -12,6 +13,9 @@ ghost use Rattle.text.specs.Tokens.{name_number, magnitude, token_at, word_token
 
 // The most bytes that a text may have.
 pub const MAX_TEXT: usize = 1024;
+
+// The value of a constant whose digits say this or more: in no kind's range.
+const VALUE_BOUND: u64 = 1 << 32;
 
 // What stands at a position of a text, behind spaces: a piece, and the position behind it.
 #[derive(Clone, Copy)]
@@ -30,18 +34,19 @@ pub enum Token {
     NumberAt(bool, u64, usize),
 }
 
-// A byte as a number of 64 bits.
-fn wide(b: u8) -> u64
-    ensures { (result ≡ b) × (result < 256) }
-{
-    b as u64
-}
-
 // Whether a byte is one of those from `first` to `last`.
 fn between(first: u8, last: u8, b: u8) -> bool
     ensures { result ≡ between first last b }
 {
-    if b < first { false } else { b <= last }
+    first <= b && b <= last
+}
+
+// How many such bytes stand before the first other.
+fn run_length(s: &[u8], first: u8, last: u8) -> usize
+    ensures value { result ≡ prefix_len (between first last) s.now }
+    ensures within { result ≤ length s.now }
+{
+    s.iter().take_while(|b| between(first, last, **b)).count()
 }
 
 // Where the run of such bytes ends that stands at a position.
@@ -50,38 +55,21 @@ fn run_end(s: &[u8], at: usize, first: u8, last: u8) -> usize
     ensures value { result ≡ at + run (between first last) (drop at s.now) }
     ensures inside { result ≤ length s.now }
 {
-    let mut i = at;
-    while i < s.len() {
-        if !between(first, last, s[i]) {
-            return i;
-        }
-        i += 1;
-    }
-    i
+    at + run_length(&s[at..], first, last)
 }
 
 // The byte at a position, 0 behind the last.
 fn byte_at(s: &[u8], at: usize) -> u8
     ensures { result ≡ get_or s.now at 0 }
 {
-    if at < s.len() { s[at] } else { 0 }
+    s.get(at).copied().unwrap_or(0)
 }
 
 // Whether a letter or digit stands at a position.
 fn goes_on(s: &[u8], at: usize) -> bool
     ensures { result ≡ is_letter_or_digit (get_or s.now at 0) }
 {
-    if at >= s.len() {
-        return false;
-    }
-    let b = s[at];
-    if between(65, 90, b) {
-        return true;
-    }
-    if between(97, 122, b) {
-        return true;
-    }
-    between(48, 57, b)
+    byte_at(s, at).is_ascii_alphanumeric()
 }
 
 // Whether a text stands at a position.
@@ -89,17 +77,7 @@ fn stands(s: &[u8], at: usize, text: &[u8]) -> bool
     requires { at ≤ length s.now }
     ensures { result ≡ begins text.now (drop at s.now) }
 {
-    if s.len() - at < text.len() {
-        return false;
-    }
-    let mut i: usize = 0;
-    while i < text.len() {
-        if s[at + i] != text[i] {
-            return false;
-        }
-        i += 1;
-    }
-    true
+    s[at..].starts_with(text)
 }
 
 // The word with a number, spelled so, where it stands at a position.
@@ -122,7 +100,7 @@ fn word(s: &[u8], at: usize, n: u8, text: &[u8]) -> Token
 fn above(b: u8, least: u8) -> u64
     ensures { (result ≡ b - least) × (result < 256) }
 {
-    if b < least { 0 } else { wide(b) - wide(least) }
+    u64::from(b.saturating_sub(least))
 }
 
 // The number of the name that the bytes from one position to another are.
@@ -131,19 +109,10 @@ fn name_number(s: &[u8], from: usize, end: usize) -> u64
     ensures { result ≡ name_number (take (end - from) (drop from s.now)) }
 {
     let mut m: u64 = 0;
-    let mut i = from;
-    while i < end {
-        m = m * 27 + above(s[i], 64);
-        i += 1;
+    for b in &s[from..end] {
+        m = m * 27 + above(*b, b'A' - 1);
     }
     m
-}
-
-// A number, 2 ^ 32 where it is more.
-fn capped(m: u64) -> u64
-    ensures { result ≡ min m (2 ^ 32) }
-{
-    if m < 4294967296 { m } else { 4294967296 }
 }
 
 // The value of the digits from one position to another, 2 ^ 32 where it is more.
@@ -152,10 +121,8 @@ fn magnitude(s: &[u8], from: usize, end: usize) -> u64
     ensures { result ≡ magnitude (take (end - from) (drop from s.now)) }
 {
     let mut m: u64 = 0;
-    let mut i = from;
-    while i < end {
-        m = capped(m * 10 + above(s[i], 48));
-        i += 1;
+    for b in &s[from..end] {
+        m = (m * 10 + above(*b, b'0')).min(VALUE_BOUND);
     }
     m
 }
@@ -166,7 +133,7 @@ fn item(s: &[u8], from: usize, letter: u8) -> Token
     requires { from ≤ length s.now }
     ensures { result ≡ item_token letter (drop from s.now) from }
 {
-    let end: usize = run_end(s, from, 65, 90);
+    let end: usize = run_end(s, from, b'A', b'Z');
     if end == from {
         return Token::NoPiece;
     }
@@ -184,7 +151,7 @@ fn constant(s: &[u8], from: usize, minus: bool) -> Token
     requires { from ≤ length s.now }
     ensures { result ≡ number_token minus (drop from s.now) from }
 {
-    let end: usize = run_end(s, from, 48, 57);
+    let end: usize = run_end(s, from, b'0', b'9');
     if end == from {
         return Token::NoPiece;
     }
@@ -201,7 +168,7 @@ fn with_equal(s: &[u8], at: usize, alone: u8) -> Token
     ensures { result ≡ cond (eqb (get_or s.now (at + 1) 0) 61) (Token.OperatorAt (alone + 1) (at + 2))
         (Token.OperatorAt alone (at + 1)) }
 {
-    if byte_at(s, at + 1) == 61 {
+    if byte_at(s, at + 1) == b'=' {
         return Token::OperatorAt(alone + 1, at + 2);
     }
     Token::OperatorAt(alone, at + 1)
@@ -212,7 +179,7 @@ fn less(s: &[u8], at: usize) -> Token
     requires { (at < length s.now) × (get_or s.now at 0 ≡ 60) }
     ensures { result ≡ fixed_token (drop at s.now) at }
 {
-    if byte_at(s, at + 1) == 62 {
+    if byte_at(s, at + 1) == b'>' {
         return Token::OperatorAt(1, at + 2);
     }
     with_equal(s, at, 2)
@@ -223,19 +190,18 @@ fn fixed(s: &[u8], at: usize) -> Token
     requires { at < length s.now }
     ensures { result ≡ fixed_token (drop at s.now) at }
 {
-    let b = s[at];
-    match b {
-        114 => word(s, at, 0, b"retrieve"),
-        119 => word(s, at, 1, b"where"),
-        110 => word(s, at, 2, b"not"),
-        97 => word(s, at, 3, b"and"),
-        111 => word(s, at, 4, b"or"),
-        40 => Token::WordAt(5, at + 1),
-        41 => Token::WordAt(6, at + 1),
-        44 => Token::WordAt(7, at + 1),
-        60 => less(s, at),
-        62 => with_equal(s, at, 4),
-        61 => Token::OperatorAt(0, at + 1),
+    match s[at] {
+        b'r' => word(s, at, 0, b"retrieve"),
+        b'w' => word(s, at, 1, b"where"),
+        b'n' => word(s, at, 2, b"not"),
+        b'a' => word(s, at, 3, b"and"),
+        b'o' => word(s, at, 4, b"or"),
+        b'(' => Token::WordAt(5, at + 1),
+        b')' => Token::WordAt(6, at + 1),
+        b',' => Token::WordAt(7, at + 1),
+        b'<' => less(s, at),
+        b'>' => with_equal(s, at, 4),
+        b'=' => Token::OperatorAt(0, at + 1),
         _ => Token::NoPiece,
     }
 }
@@ -245,27 +211,17 @@ pub fn token_at(s: &[u8], at: usize) -> Token
     requires { at ≤ length s.now }
     ensures { result ≡ token_at s.now at }
 {
-    let start: usize = run_end(s, at, 32, 32);
-    if start >= s.len() {
+    let start: usize = run_end(s, at, b' ', b' ');
+    let Some(b) = s.get(start) else {
         return Token::AtEnd;
+    };
+    match *b {
+        b'A'..=b'Z' => item(s, start, 0),
+        b'a'..=b'z' if byte_at(s, start + 1) == b'.' => item(s, start + 2, *b),
+        b'0'..=b'9' => constant(s, start, false),
+        b'-' => constant(s, start + 1, true),
+        _ => fixed(s, start),
     }
-    let b = s[start];
-    if between(65, 90, b) {
-        return item(s, start, 0);
-    }
-    if between(97, 122, b) {
-        if byte_at(s, start + 1) == 46 {
-            return item(s, start + 2, b);
-        }
-        return fixed(s, start);
-    }
-    if between(48, 57, b) {
-        return constant(s, start, false);
-    }
-    if b == 45 {
-        return constant(s, start + 1, true);
-    }
-    fixed(s, start)
 }
 
 // What a parser of conditions finds.
@@ -319,12 +275,6 @@ fn nothing() -> Parse
     }
 }
 
-fn larger(a: usize, b: usize) -> usize
-    ensures { result ≡ max a b }
-{
-    if a < b { b } else { a }
-}
-
 // Writes one word of a program. The place behind it.
 fn put(out: &mut [u64], at: usize, word: u64) -> usize
     requires { at < length out.old }
@@ -348,7 +298,7 @@ fn with_word(e: Parse, depth: usize, word: u64, out: &mut [u64]) -> Parse
     Parse {
         ok: true,
         next: e.next,
-        depth: larger(depth, e.depth),
+        depth: depth.max(e.depth),
         end,
     }
 }
@@ -419,10 +369,10 @@ fn put_comparison(x: Compared, out: &mut [u64], to: usize) -> usize
     ensures out_after { out.new ≡ written to (compared_words x) out.old }
 {
     let mut at = put(out, to, 0);
-    at = put(out, at, wide(x.letter));
+    at = put(out, at, u64::from(x.letter));
     at = put(out, at, x.name);
-    at = put(out, at, wide(x.operator));
-    at = put(out, at, wide(x.letter2));
+    at = put(out, at, u64::from(x.operator));
+    at = put(out, at, u64::from(x.letter2));
     put(out, at, x.name2)
 }
 
@@ -582,7 +532,7 @@ fn items_at(s: &[u8], at: usize, out: &mut [u64]) -> Items
         let Token::ItemAt(letter, name, mid) = t else {
             return no_items();
         };
-        let place: usize = put(out, 2 * n, wide(letter));
+        let place: usize = put(out, 2 * n, u64::from(letter));
         put(out, place, name);
         n += 1;
         let next: usize = after(s, mid, 7);
@@ -628,10 +578,7 @@ fn is_end(s: &[u8], at: usize) -> bool
     ensures { result ≡ is_at_end (token_at s.now at) }
 {
     let t = token_at(s, at);
-    match t {
-        Token::AtEnd => true,
-        _ => false,
-    }
+    matches!(t, Token::AtEnd)
 }
 
 // What was read up to a position, if only spaces stand behind it.

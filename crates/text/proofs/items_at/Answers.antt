@@ -35,13 +35,13 @@ after-next-requires c =
 
 pub shape_of-out-then-next-eq0 : goal.shape_of-out-then-next-eq0
 shape_of-out-then-next-eq0 c =
-    more_same _ _ _ c.loop-letter.invariant c.requires.1 _ c.token_at-t.ensures _ _ _ c.in-ItemAt.is c.wide.ensures.0
+    more_same _ _ _ c.loop-letter.invariant c.requires.1 _ c.token_at-t.ensures _ _ _ c.in-ItemAt.is c.from.ensures
     c.put-place.ensures.out_after c.put-place.ensures.value c.put.ensures.out_after
 
 pub returns-then-next-eq0 : goal.returns-then-next-eq0
 returns-then-next-eq0 c =
     going_last _ _ _ c.loop-letter.invariant c.requires.1 _ c.token_at-t.ensures _ _ _ c.in-ItemAt.is _
-    c.after-next.ensures c.wide.ensures.0 c.put-place.ensures.out_after c.put-place.ensures.value
+    c.after-next.ensures c.from.ensures c.put-place.ensures.out_after c.put-place.ensures.value
     c.put.ensures.out_after refl c.if-next-eq0.true
 
 pub loop-letter-smaller : goal.loop-letter-smaller
@@ -59,5 +59,5 @@ loop-letter-smaller c =
 pub loop-letter-preserved : goal.loop-letter-preserved
 loop-letter-preserved c =
     going_next _ _ _ c.loop-letter.invariant c.requires.1 _ c.token_at-t.ensures _ _ _ c.in-ItemAt.is _
-    c.after-next.ensures c.if-next-eq0.false c.wide.ensures.0 c.put-place.ensures.out_after c.put-place.ensures.value
+    c.after-next.ensures c.if-next-eq0.false c.from.ensures c.put-place.ensures.out_after c.put-place.ensures.value
     c.put.ensures.out_after refl

@@ -13,5 +13,5 @@ put-end-requires c = search (rules, with_room)
 
 pub returns : goal.returns
 returns c =
-    let r = with_done _ _ _ _ _ _ _ c.if-not-e.false c.put-end.ensures.value c.larger.ensures
+    let r = with_done _ _ _ _ _ _ _ c.if-not-e.false c.put-end.ensures.value c.max.ensures
     c.put-end.ensures.out_after in record { value = r.0; out_after = r.1 }
