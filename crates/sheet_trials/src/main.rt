@@ -8,46 +8,17 @@ const BEFORE: u8 = b'#';
 // Rows of one item, more than two sheets of them.
 const MOST: usize = 77;
 
-fn word(rt: &impl Print, s: &[u8]) {
-    let _ = rt.write_all(s);
-}
-
-fn number(rt: &impl Print, n: u64) {
-    let _ = rt.print(n);
-}
-
-// Every lent byte as before a call.
-fn clear(out: &mut [u8]) {
-    let mut i: usize = 0;
-    while i < out.len() {
-        out[i] = BEFORE;
-        i += 1;
-    }
-}
-
-// Whether no byte was written.
-fn is_as_before(out: &[u8]) -> bool {
-    let mut i: usize = 0;
-    while i < out.len() {
-        if out[i] != BEFORE {
-            return false;
-        }
-        i += 1;
-    }
-    true
-}
-
 // A sheet with a mark behind the last lent byte, or whether the bytes are as they were.
 fn show(rt: &impl Print, refusal: u8, out: &[u8]) {
     if refusal == 0 {
-        word(rt, out);
-        word(rt, b"|\n");
+        console::word(rt, out);
+        console::word(rt, b"|\n");
         return;
     }
-    if is_as_before(out) {
-        word(rt, b"as before\n");
+    if out.iter().all(|b| *b == BEFORE) {
+        console::word(rt, b"as before\n");
     } else {
-        word(rt, b"changed\n");
+        console::word(rt, b"changed\n");
     }
 }
 
@@ -62,27 +33,27 @@ fn sheet(
     called: u64,
     out: &mut [u8],
 ) {
-    clear(out);
-    word(rt, b"rows ");
-    number(rt, rows as u64);
-    word(rt, b" items ");
-    number(rt, kinds.len() as u64);
-    word(rt, b" sheet ");
-    number(rt, called);
-    word(rt, b" bytes ");
-    number(rt, out.len() as u64);
-    word(rt, b": ");
+    out.fill(BEFORE);
+    console::word(rt, b"rows ");
+    console::number(rt, rows);
+    console::word(rt, b" items ");
+    console::number(rt, kinds.len());
+    console::word(rt, b" sheet ");
+    console::number(rt, called);
+    console::word(rt, b" bytes ");
+    console::number(rt, out.len());
+    console::word(rt, b": ");
     let refusal = sheets::sheet(serial, rows, kinds, cells, called, out);
-    number(rt, refusal as u64);
-    word(rt, b"\n");
+    console::number(rt, refusal);
+    console::word(rt, b"\n");
     show(rt, refusal, out);
 }
 
 // Names from 1000 on.
 fn names() -> [u32; MOST] {
     let mut cells = [0u32; MOST];
-    for i in 0..77u32 {
-        cells[i as usize] = 1000 + i;
+    for (cell, name) in cells.iter_mut().zip(1000..1077) {
+        *cell = name;
     }
     cells
 }
@@ -131,11 +102,11 @@ fn unfit(rt: &impl Print, out: &mut [u8]) {
 
 // How many sheets an answer of so many rows has.
 fn count(rt: &impl Print, rows: usize) {
-    word(rt, b"rows ");
-    number(rt, rows as u64);
-    word(rt, b" sheets ");
-    number(rt, sheets::sheets(rows));
-    word(rt, b"\n");
+    console::word(rt, b"rows ");
+    console::number(rt, rows);
+    console::word(rt, b" sheets ");
+    console::number(rt, sheets::sheets(rows));
+    console::word(rt, b"\n");
 }
 
 fn counts(rt: &impl Print) {

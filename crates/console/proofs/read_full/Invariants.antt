@@ -1,6 +1,6 @@
 -- The bytes read are within the buffer, whose length stays. The measure: the room that is left.
 use Rattle.std.proofs.Common.{◌≡◌, ◌≤◌, ◌-◌, length}
-use Rattle.bench_read.proofs.read_full.Given as goal
+use Rattle.console.proofs.read_full.Given as goal
 
 abbrev pub invariant-loop-n : goal.invariant-loop-n
 invariant-loop-n g l = (l.n ≤ length l.buf) × (length l.buf ≡ length l.initial.buf)

@@ -1,9 +1,0 @@
--- The length stays. The measure: the bytes left.
-use Rattle.std.proofs.Common.{◌≡◌, ◌-◌, length}
-use Rattle.sheet_trials.proofs.clear.Given as goal
-
-abbrev pub invariant-loop-i : goal.invariant-loop-i
-invariant-loop-i l = length l.out ≡ length l.initial.out
-
-abbrev pub decreases-loop-i : goal.decreases-loop-i
-decreases-loop-i l = length l.initial.out - l.i

@@ -1,9 +1,0 @@
--- The measure: the bytes left.
-use Rattle.std.proofs.Common.{◌≤◌, ◌-◌, length}
-use Rattle.sheet_trials.proofs.is_as_before.Given as goal
-
-abbrev pub invariant-loop-i : goal.invariant-loop-i
-invariant-loop-i l = l.i ≤ length l.out
-
-abbrev pub decreases-loop-i : goal.decreases-loop-i
-decreases-loop-i l = length l.out - l.i
