@@ -1,11 +1,8 @@
 -- `sets::within_each` meets its contract. The invariant: the attributes below k are asked (`EachSoFar`).
 -- Assumes nothing.
 use mathlib.Core.Path.{sym, ◌∙◌}
-use mathlib.Core.Logic.{⊎_elim}
-use borrow.Author.Tests.{not-true, not-false}
 use Rattle.sets.proofs.Bits.{in_out}
 use Rattle.sets.proofs.Sets.{yes_has, no_has}
-use Prim.Native.Nat.{◌-◌}
 use native.Mathlib.Omega.{arith}
 use Rattle.sets.proofs.Plain.{each_start, each_next, each_failed, each_end}
 use Rattle.sets.proofs.within_each.Goals as goal
