@@ -25,12 +25,10 @@ const KINDS: usize = ATTRIBUTES as usize;
 fn some_nonzero(cells: [u32; 6], from: usize) -> bool
     ensures { result ≡ some_non_zero (drop from cells) }
 {
-    let mut i = from;
-    while i < 6 {
+    for i in from..6 {
         if cells[i] != 0 {
             return true;
         }
-        i += 1;
     }
     false
 }
@@ -41,15 +39,13 @@ fn some_outside(kinds: [u8; KINDS], set: AttributeSet, cells: [u32; 6]) -> bool
     requires { count ATTRIBUTES set ≤ 6 }
     ensures { result ≡ some_outside kinds set cells ATTRIBUTES }
 {
-    let mut a: usize = 0;
-    while a < KINDS {
+    for a in 0..KINDS {
         if sets::has(set, a as u32) {
             let place = sets::rank(set, a as u32) as usize;
             if !values::in_range(kinds[a], cells[place]) {
                 return true;
             }
         }
-        a += 1;
     }
     false
 }
@@ -325,15 +321,7 @@ fn declare_record(s: Scheme, r: BookRecord) -> Scheme
         BookRecord::Attribute { id, kind } => with_attribute(s, id, kind),
         BookRecord::Object { number, set } => with_object(s, number, set),
         BookRecord::Dependency { left, right } => with_dependency(s, left, right),
-        BookRecord::Row {
-            object: _,
-            c0: _,
-            c1: _,
-            c2: _,
-            c3: _,
-            c4: _,
-            c5: _,
-        } => s,
+        BookRecord::Row { .. } => s,
         BookRecord::Declared { set } => with_declared(s, numbers::long(set)),
         BookRecord::Removed { set } => with_removed(s, numbers::long(set)),
         BookRecord::ComparisonTable {
@@ -359,10 +347,11 @@ fn declare(s: Scheme, r: Record) -> Scheme
 }
 
 // Whether a record is a row.
+#[tactic(auto, unfolding(crate::specs::Reading::is_row, records::specs::Records::kind_of))]
 fn is_row(r: Record) -> bool
     ensures { result ≡ is_row r }
 {
-    records::kind_of(r) == 4
+    matches!(r, Record::OfBook(BookRecord::Row { .. }))
 }
 
 // The fault of a body that is cut short, by its kind.

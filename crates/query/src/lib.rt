@@ -332,10 +332,11 @@ fn with_record(s: Scheme, q: Asked, r: Record) -> Asked
 }
 
 // Whether a record is the end of a query.
+#[tactic(auto, unfolding(crate::specs::Reading::is_end, records::specs::Records::kind_of))]
 fn is_end(r: Record) -> bool
     ensures { result ≡ is_end r }
 {
-    records::kind_of(r) == 10
+    matches!(r, Record::OfQuery(QueryRecord::End))
 }
 
 // The fault of a body that is cut short, by its kind.
@@ -403,12 +404,10 @@ fn none_contains<'a>(sets: &'a [AttributeSet], maximal: &'a [ObjectSet], x: Attr
     requires { OBJECTS ≤ length sets.now }
     ensures { result ≡ is_nil (containing sets.now maximal.now x) }
 {
-    let mut i: usize = 0;
-    while i < maximal.len() {
-        if sets::within(x, scheme::attributes_of(sets, maximal[i])) {
+    for objects in maximal {
+        if sets::within(x, scheme::attributes_of(sets, *objects)) {
             return false;
         }
-        i += 1;
     }
     true
 }
@@ -422,15 +421,12 @@ fn some_unconnected<'a>(
     requires { OBJECTS ≤ length sets.now }
     ensures { result ≡ some_unconnected sets.now maximal.now attributes }
 {
-    let mut v: usize = 0;
-    while v < 4 {
-        let x = attributes[v];
-        if !sets::is_empty(x) {
-            if none_contains(sets, maximal, x) {
+    for x in &attributes {
+        if !sets::is_empty(*x) {
+            if none_contains(sets, maximal, *x) {
                 return true;
             }
         }
-        v += 1;
     }
     false
 }

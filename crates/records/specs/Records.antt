@@ -3,7 +3,10 @@
 -- Not here: which values a field may have.
 -- Assumes nothing.
 use Rattle.std.specs.Prelude.{Bool, not, List, [], ◌∷◌, ◌++◌, map, ℕ, ◌+◌, ◌*◌, ◌^◌, ◌<◌, eqb, get_or}
+use Rattle.std.specs.Prelude.{Option, None, Some}
 use Rattle.records.specs.Fields.{bytes}
+use Rattle.records.specs.declared.Owner.{Owner}
+use Rattle.records.specs.declared.Owner.TheVariants.{Book, Query}
 use Rattle.records.specs.declared.Record.{Record}
 use Rattle.records.specs.declared.BookRecord.{BookRecord}
 use Rattle.records.specs.declared.QueryRecord.{QueryRecord}
@@ -34,6 +37,12 @@ kinds =
     ∷ 1 ∷ 0  -- 14: none
     ∷ 1 ∷ 8  -- 15: set of objects, in 8 bytes
     ∷ []
+
+-- The number of whose kind a byte is, as the table has it.
+abbrev pub owner_number : Option Owner → ℕ
+owner_number None = 0
+owner_number (Some Book) = 1
+owner_number (Some Query) = 2
 
 -- Whose kind k is, and the bytes of its body; 0 for a number that is no kind.
 unfoldable pub whose : ℕ → ℕ
