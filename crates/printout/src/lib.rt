@@ -13,14 +13,13 @@ use numbers::index;
 // Room that is always enough for an answer of 8,192 cells.
 pub const ROOM: usize = 98327;
 
-// What printing gives.
-#[derive(Clone, Copy)]
-pub enum Printed {
-    // The whole text stands in the first bytes; this many.
-    Bytes(usize),
-    // The text is longer than the bytes. They are as they were.
+// Why nothing was printed. The bytes are as they were. What was printed stands in the first bytes, and printing gives how
+// many they are.
+#[derive(Clone, Copy, PartialEq, Eq, Debug)]
+pub enum Unprinted {
+    // The text is longer than the bytes.
     NoRoom,
-    // The answer is not fit to print. The bytes are as they were.
+    // The answer is not fit to print.
     NotFit,
 }
 
@@ -298,50 +297,50 @@ pub fn print_answer(
     kinds: &[u8],
     cells: &[u32],
     out: &mut [u8],
-) -> Printed
+) -> Result<usize, Unprinted>
     ensures value { result ≡ answer_printed serial rows kinds.now cells.now out.old }
     ensures out_after { out.new
         ≡ after_answer serial rows kinds.now cells.now out.old }
 {
     if !is_fit(rows, kinds, cells) {
-        return Printed::NotFit;
+        return Err(Unprinted::NotFit);
     }
     let size = head_length(serial, rows) + rows_length(kinds, cells, rows);
     if out.len() < size {
-        return Printed::NoRoom;
+        return Err(Unprinted::NoRoom);
     }
     let at = put_head(out, serial, rows);
-    Printed::Bytes(put_rows(out, at, kinds, cells, rows))
+    Ok(put_rows(out, at, kinds, cells, rows))
 }
 
 // Prints a text as it is.
-pub fn print_text(text: &[u8], out: &mut [u8]) -> Printed
+pub fn print_text(text: &[u8], out: &mut [u8]) -> Result<usize, Unprinted>
     ensures value { result ≡ printed text.now out.old }
     ensures out_after { out.new ≡ after text.now out.old }
 {
     if out.len() < text.len() {
-        return Printed::NoRoom;
+        return Err(Unprinted::NoRoom);
     }
-    Printed::Bytes(put_text(out, 0, text))
+    Ok(put_text(out, 0, text))
 }
 
 // Prints a line of some words, a space behind each, and a number.
-fn print_refusal(words: &[u8], number: u8, out: &mut [u8]) -> Printed
+fn print_refusal(words: &[u8], number: u8, out: &mut [u8]) -> Result<usize, Unprinted>
     requires { length words.now ≤ 14 }
     ensures value { result ≡ printed (words.now ++ decimal number ++ 10 ∷ []) out.old }
     ensures out_after { out.new ≡ after (words.now ++ decimal number ++ 10 ∷ []) out.old }
 {
-    let x = number as usize;
+    let x = usize::from(number);
     let n = words.len() + decimal_length(x) + 1;
     if out.len() < n {
-        return Printed::NoRoom;
+        return Err(Unprinted::NoRoom);
     }
     let at = put_words(out, 0, words, x);
-    Printed::Bytes(put_byte(out, at, b'\n'))
+    Ok(put_byte(out, at, b'\n'))
 }
 
 // Prints that a book is refused, by its number.
-pub fn print_book_refusal(number: u8, out: &mut [u8]) -> Printed
+pub fn print_book_refusal(number: u8, out: &mut [u8]) -> Result<usize, Unprinted>
     ensures value { result ≡ printed (book_refused number) out.old }
     ensures out_after { out.new ≡ after (book_refused number) out.old }
 {
@@ -349,7 +348,7 @@ pub fn print_book_refusal(number: u8, out: &mut [u8]) -> Printed
 }
 
 // Prints that a query is refused, by its number.
-pub fn print_query_refusal(number: u8, out: &mut [u8]) -> Printed
+pub fn print_query_refusal(number: u8, out: &mut [u8]) -> Result<usize, Unprinted>
     ensures value { result ≡ printed (query_refused number) out.old }
     ensures out_after { out.new ≡ after (query_refused number) out.old }
 {
