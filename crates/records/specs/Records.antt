@@ -57,6 +57,11 @@ of_book k = eqb (whose k) 1
 unfoldable pub of_query : ℕ → Bool
 of_query k = eqb (whose k) 2
 
+-- the kinds that may stand where the records of an owner are read
+abbrev pub allowed_to : Owner → ℕ → Bool
+allowed_to Book = of_book
+allowed_to Query = of_query
+
 unfoldable pub is_kind : ℕ → Bool
 is_kind k = not (eqb (whose k) 0)
 

@@ -2,9 +2,14 @@
 #![tactic(auto)]
 
 ghost use Rattle.std.specs.Prelude.{◌≡◌, true, ◌+◌, ◌%◌, ◌≤◌, ◌<◌, length, drop};
+ghost use Rattle.refusals.specs.Refusals.{number_of, number_of_any};
 ghost use Rattle.records.specs.Fields.{field};
 ghost use Rattle.records.specs.Records.{owner_number, whose, body_length, is_kind, of_book, of_query, kind_of, masks_of};
+ghost use Rattle.records.specs.Records.{allowed_to};
 ghost use Rattle.records.specs.Reader.{record_of, read_at};
+ghost use Rattle.records.specs.Walking.{short_number, unread_number};
+
+use refusals::Refusal;
 
 // A record of a book, in the order of the paper's table: kinds 1 to 6, 13, 14 and 15. A comparison table has a word
 // for each left kind, whose bytes are the masks of the right kinds, the lowest first.
@@ -94,7 +99,7 @@ pub enum Reading {
 
 // Whose kind a byte is.
 #[derive(Clone, Copy, PartialEq, Eq, Debug)]
-enum Owner {
+pub enum Owner {
     Book,
     Query,
 }
@@ -164,23 +169,17 @@ pub fn body_length(kind: u8) -> usize
     }
 }
 
-// Whether a byte is a kind of the table; of a book; of a query.
+// Whether a byte is a kind of the table, and whether it is one of an owner's.
 pub fn is_kind(kind: u8) -> bool
     ensures { result ≡ is_kind kind }
 {
     whose(kind).is_some()
 }
 
-pub fn of_book(kind: u8) -> bool
-    ensures { result ≡ of_book kind }
+pub fn is_of(kind: u8, owner: Owner) -> bool
+    ensures { result ≡ allowed_to owner kind }
 {
-    whose(kind) == Some(Owner::Book)
-}
-
-pub fn of_query(kind: u8) -> bool
-    ensures { result ≡ of_query kind }
-{
-    whose(kind) == Some(Owner::Query)
+    whose(kind) == Some(owner)
 }
 
 // The kind of a record of a book, and of a query.
@@ -339,9 +338,31 @@ pub fn read(s: &[u8], at: usize) -> Reading
     if s.len() - body < len {
         return Reading::Short(kind);
     }
-    if of_book(kind) {
+    if is_of(kind, Owner::Book) {
         Reading::Found(Record::OfBook(book_record(s, kind, body)), body + len)
     } else {
         Reading::Found(Record::OfQuery(query_record(s, kind, body)), body + len)
+    }
+}
+
+// The fault of a body that is cut short, where the records of an owner are read.
+fn short_fault(kind: u8, owner: Owner) -> Refusal
+    ensures { number_of result ≡ short_number (allowed_to owner) kind }
+{
+    if is_of(kind, owner) {
+        Refusal::CutShort
+    } else {
+        Refusal::KindNotAllowed
+    }
+}
+
+// The fault where no whole record stands, and none at the end of the bytes.
+pub fn unread(found: Reading, owner: Owner) -> Option<Refusal>
+    ensures { number_of_any result ≡ unread_number owner found }
+{
+    match found {
+        Reading::Unknown => Some(Refusal::KindNotAllowed),
+        Reading::Short(kind) => Some(short_fault(kind, owner)),
+        _ => None,
     }
 }

@@ -4,5 +4,5 @@ use Rattle.scheme.proofs.Lists.{NoneSoFar}
 use Rattle.query.proofs.Loops.{contains_asks}
 use Rattle.query.proofs.none_contains.Given as goal
 
-abbrev pub invariant-loop-objects : goal.objects-indexnvariant-loop-objects
+abbrev pub invariant-loop-objects : goal.invariant-loop-objects
 invariant-loop-objects l = NoneSoFar (contains_asks l.sets l.x) l.maximal l.objects-index

@@ -4,4 +4,4 @@ use Rattle.query.proofs.Loops.{NoneUnconnected}
 use Rattle.query.proofs.some_unconnected.Given as goal
 
 abbrev pub invariant-loop-x : goal.invariant-loop-x
-invariant-loop-x l = NoneUnconnected l.sets l.maximal l.attributes l.x-index
+invariant-loop-x l = NoneUnconnected l.sets l.maximal l.fn.attributes l.x-index
