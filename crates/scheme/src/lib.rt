@@ -341,12 +341,7 @@ fn some_cyclic<'a>(sets: &'a [AttributeSet], list: &'a [ObjectSet]) -> bool
     requires { OBJECTS ≤ length sets.now }
     ensures { result ≡ some_cyclic sets.now list.now }
 {
-    for m in list {
-        if is_cyclic(sets, *m) {
-            return true;
-        }
-    }
-    false
+    list.iter().any(|m| is_cyclic(sets, *m))
 }
 
 // The list without the sets that are named.
