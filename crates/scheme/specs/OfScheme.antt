@@ -44,10 +44,9 @@ cyclic_of s = some_cyclic s.sets (maximal_of s)
 
 -- ---- as the code has them
 
--- the first n places of two arrays of sides are there
-pub record Sides (n : ℕ) (left right : List ℕ) : Type 0 where
-  pub left_there : n ≤ length left
-  pub right_there : n ≤ length right
+-- the dependencies in two lists of sides: each left side with the right side beside it
+abbrev pub beside : List ℕ → List ℕ → List Dependency
+beside ls rs = pairs (length ls) ls rs
 
 -- each object that is declared and not held was asked with the attributes `before`, and did not join
 pub record NotJoined (D : List Dependency) (sets : List ℕ) (objects H before : ℕ) : Type 0 where
