@@ -5,6 +5,7 @@ use Rattle.std.specs.Prelude.{◌≡◌, Bool, true, false, List, [], ◌∷◌,
 use Rattle.sets.specs.Sets.{◌∈◌, ◌∉◌, within, ◌∩◌, OBJECTS}
 use Rattle.reduction.specs.Packed.{padded}
 use Rattle.scheme.specs.declared.Scheme.{Scheme}
+use Rattle.scheme.specs.declared.Dependencies.{Dependencies}
 use Rattle.scheme.specs.declared.ObjectList.{ObjectList}
 use Rattle.scheme.specs.declared.MaximalList.{MaximalList}
 use Rattle.scheme.specs.Dependencies.{Dependency, closure}
@@ -47,6 +48,9 @@ cyclic_of s = some_cyclic s.sets (maximal_of s)
 -- the dependencies in two lists of sides: each left side with the right side beside it
 abbrev pub beside : List ℕ → List ℕ → List Dependency
 beside ls rs = pairs (length ls) ls rs
+
+abbrev pub stated : Dependencies → List Dependency
+stated d = beside d.left.now d.right.now
 
 -- each object that is declared and not held was asked with the attributes `before`, and did not join
 pub record NotJoined (D : List Dependency) (sets : List ℕ) (objects H before : ℕ) : Type 0 where

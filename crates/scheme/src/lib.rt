@@ -10,11 +10,11 @@ ghost use Rattle.scheme.specs.Dependencies.{pass, closure};
 ghost use Rattle.scheme.specs.Growing.{family_of, attributes_of, round, grown};
 ghost use Rattle.scheme.specs.MaximalObjects.{all_grown, computed, is_one, removing, adding, both_kinds};
 ghost use Rattle.scheme.specs.MaximalObjects.{some_cyclic};
-ghost use Rattle.scheme.specs.OfScheme.{beside, listed, sets_of, HasRoom, computed_of, counting_of};
+ghost use Rattle.scheme.specs.OfScheme.{stated, listed, sets_of, HasRoom, computed_of, counting_of};
 ghost use Rattle.scheme.specs.OfScheme.{maximal_list_of, MAXIMALS, NotJoined};
 
 use reduction::SetList;
-use sets::{ATTRIBUTES, OBJECTS, AttributeSet, Mask, ObjectSet};
+use sets::{ATTRIBUTES, AttributeSet, Mask, OBJECTS, ObjectSet};
 
 // What the records of kinds 5, 6 and 14 say of maximal objects: those declared and those to be removed, each array
 // beside its count, and whether only declared ones count. Places behind the counts are 0.
@@ -78,7 +78,7 @@ pub struct Objects<'a> {
 
 // One pass: each dependency in turn whose left side is there adds its right side.
 fn pass(dependencies: Dependencies<'_>, attributes: AttributeSet) -> AttributeSet
-    ensures { result ≡ pass (beside dependencies.entry.left.now dependencies.entry.right.now) attributes }
+    ensures { result ≡ pass (stated dependencies.entry) attributes }
 {
     let mut all = attributes;
     for (left, right) in dependencies.left.iter().zip(dependencies.right) {
@@ -91,7 +91,7 @@ fn pass(dependencies: Dependencies<'_>, attributes: AttributeSet) -> AttributeSe
 
 // The attributes that are determined by some: passes until nothing is added.
 pub fn closure(dependencies: Dependencies<'_>, attributes: AttributeSet) -> AttributeSet
-    ensures { result ≡ closure (beside dependencies.entry.left.now dependencies.entry.right.now) attributes }
+    ensures { result ≡ closure (stated dependencies.entry) attributes }
 {
     let mut all = attributes;
     let mut next = pass(dependencies, all);
@@ -140,10 +140,8 @@ fn is_determined(
     asked: Option<AttributeSet>,
     attributes: AttributeSet,
 ) -> bool
-    requires { IfSome asked (λ before.
-        within s (closure (beside dependencies.left.now dependencies.right.now) (s ∩ before)) ≡ false) }
-    ensures { result
-        ≡ within s (closure (beside dependencies.entry.left.now dependencies.entry.right.now) (s ∩ attributes)) }
+    requires { IfSome asked (λ before. within s (closure (stated dependencies) (s ∩ before)) ≡ false) }
+    ensures { result ≡ within s (closure (stated dependencies.entry) (s ∩ attributes)) }
 {
     let shared = s.intersection(attributes);
     if let Some(before) = asked {
@@ -162,10 +160,8 @@ fn round(
     held: ObjectSet,
     asked: Option<AttributeSet>,
 ) -> ObjectSet
-    requires { IfSome asked (NotJoined (beside dependencies.left.now dependencies.right.now)
-        objects.sets.now objects.declared held) }
-    ensures { result
-        ≡ round (beside dependencies.entry.left.now dependencies.entry.right.now) objects.entry.sets.now objects.entry.declared held }
+    requires { IfSome asked (NotJoined (stated dependencies) objects.sets.now objects.declared held) }
+    ensures { result ≡ round (stated dependencies.entry) objects.entry.sets.now objects.entry.declared held }
 {
     let attributes = attributes_of(objects.sets, held);
     let mut next: ObjectSet = 0;
@@ -184,8 +180,7 @@ fn round(
 // The set grown from a start: rounds until no object joins.
 pub fn grow(dependencies: Dependencies<'_>, objects: Objects<'_>, start: u32) -> ObjectSet
     requires { start < OBJECTS }
-    ensures { result
-        ≡ grown (beside dependencies.entry.left.now dependencies.entry.right.now) objects.entry.sets.now objects.entry.declared start }
+    ensures { result ≡ grown (stated dependencies.entry) objects.entry.sets.now objects.entry.declared start }
 {
     let mut held = ObjectSet::single(start);
     let mut next = round(dependencies, objects, held, None);
@@ -207,8 +202,8 @@ pub struct ObjectList {
 
 // The sets grown from each object, starts ascending.
 fn grown_sets(dependencies: Dependencies<'_>, objects: Objects<'_>) -> ObjectList
-    ensures { result ≡ listed (all_grown (beside dependencies.entry.left.now dependencies.entry.right.now)
-        objects.entry.sets.now objects.entry.declared) }
+    ensures { result
+        ≡ listed (all_grown (stated dependencies.entry) objects.entry.sets.now objects.entry.declared) }
 {
     let mut out: [ObjectSet; MAXIMALS] = [0; MAXIMALS];
     let mut count: usize = 0;
@@ -269,8 +264,8 @@ fn maximal_sets(grown: &[ObjectSet]) -> ObjectList
 
 // The grown sets without those properly inside another and without repeats.
 fn computed_sets(dependencies: Dependencies<'_>, objects: Objects<'_>) -> ObjectList
-    ensures { result ≡ listed (computed (beside dependencies.entry.left.now dependencies.entry.right.now)
-        objects.entry.sets.now objects.entry.declared) }
+    ensures { result
+        ≡ listed (computed (stated dependencies.entry) objects.entry.sets.now objects.entry.declared) }
 {
     let all = grown_sets(dependencies, objects);
     maximal_sets(first(&all.sets, all.count))
@@ -352,7 +347,10 @@ pub fn computed(s: Scheme) -> ObjectList
 {
     let left = first(&s.left, s.dependencies);
     let right = first(&s.right, s.dependencies);
-    let objects = Objects { sets: &s.sets, declared: s.objects };
+    let objects = Objects {
+        sets: &s.sets,
+        declared: s.objects,
+    };
     computed_sets(Dependencies { left, right }, objects)
 }
 
@@ -375,10 +373,7 @@ pub fn maximal_objects(s: Scheme) -> MaximalList
     let removed = first(&s.maximal.removed, s.maximal.removals);
     let rest = without_removed(list, removed);
     let both = both_kinds(s.maximal.only, s.maximal.removals);
-    let all = with_declared(
-        rest,
-        first(&s.maximal.declared, s.maximal.declarations),
-    );
+    let all = with_declared(rest, first(&s.maximal.declared, s.maximal.declarations));
     let cyclic = some_cyclic(&s.sets, first(&all.sets, all.count));
     let sets = all.sets;
     MaximalList {

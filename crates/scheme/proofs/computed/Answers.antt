@@ -1,7 +1,6 @@
 -- `scheme::computed` meets its contract: the sides up to the count are the dependencies.
 -- Assumes nothing.
 use Rattle.scheme.proofs.OfScheme.{computed_of_fact}
-use borrow.Author.Rules.{rules}
 use Rattle.scheme.proofs.computed.Goals as goal
 
 pub returns : goal.returns

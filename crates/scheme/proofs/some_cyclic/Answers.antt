@@ -1,5 +1,5 @@
 -- `scheme::some_cyclic` meets its contract: `any` asks of each set what the definition asks (`or_is`). Assumes nothing.
-use Rattle.std.proofs.Common.{◌≡◌, ℕ, refl, rules}
+use Rattle.std.proofs.Common.{ℕ, refl, rules}
 use Rattle.std.proofs.lemmas.List.Recursion.{or_is}
 use mathlib.Core.Bool.{not}
 use Rattle.reduction.specs.Kept.{acyclic}
