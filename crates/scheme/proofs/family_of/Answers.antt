@@ -8,7 +8,7 @@ use Rattle.scheme.proofs.Loops.{members_start, members_room, members_with, membe
 use Rattle.scheme.proofs.Loops.{members_end}
 use Rattle.scheme.proofs.Packing.{listing_packed}
 use Rattle.scheme.proofs.family_of.Goals as goal
-use Rattle.scheme.proofs.family_of.Goals.{then-has_object, else-has_object}
+use Rattle.scheme.proofs.family_of.Goals.{then-has, else-has}
 
 pub loop-k-init : goal.loop-k-init
 unfolding padded
@@ -24,11 +24,11 @@ pub overflow_add-count : goal.overflow_add-count
 overflow_add-count c = omega (arith, members_room c.loop-k.invariant (omega arith))
 
 pub loop-k-preserved : goal.loop-k-preserved
-loop-k-preserved c = elim c.if-has_object.branch [
-  | then-has_object w ↦ members_with c.loop-k.invariant (omega arith) _
-      (sym c.has_object.ensures ∙ w.if-has_object.true) refl w.out-is w.count-is
-  | else-has_object w ↦ members_past c.loop-k.invariant (omega arith)
-      (sym c.has_object.ensures ∙ w.if-has_object.false) w.out-is w.count-is
+loop-k-preserved c = elim c.if-has.branch [
+  | then-has w ↦ members_with c.loop-k.invariant (omega arith) _
+      (sym c.has.ensures ∙ w.if-has.true) refl w.out-is w.count-is
+  | else-has w ↦ members_past c.loop-k.invariant (omega arith)
+      (sym c.has.ensures ∙ w.if-has.false) w.out-is w.count-is
 ]
 
 pub returns : goal.returns
