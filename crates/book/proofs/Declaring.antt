@@ -9,16 +9,10 @@ use native.Mathlib.Omega.{arith}
 use borrow.Author.Tests.{eqb-true, ne_eqb, ltb-false, leb-false, not-false}
 use lib.Dec.{ltb, leb}
 use lib.ListN.{get_or}
-use types.Run.{OneOf, miss}
-use denote.Enum.Declared.{tag_of}
 use Rattle.values.specs.Table.{TableRules, keeps_rules}
 use Rattle.values.proofs.Table.{rules_tested}
 use Rattle.records.specs.Checks.{first_of}
-use Rattle.records.specs.Records.{of_book, kind_of, masks_of}
-use Rattle.records.specs.Walking.{short_number}
-use Rattle.records.specs.contracts.Reading as ReadingType
-use Rattle.records.specs.declared.Reading.{Reading}
-use Rattle.records.specs.declared.Reading.TheVariants.{Nothing, Unknown, Short, Found}
+use Rattle.records.specs.Records.{kind_of, masks_of}
 use Rattle.records.specs.declared.Record.{Record}
 use Rattle.records.specs.declared.BookRecord.{BookRecord}
 use Rattle.records.specs.declared.Record.TheVariants.{OfBook}

@@ -8,12 +8,9 @@ use mathlib.Core.List.{List, [], ◌∷◌, ◌++◌}
 use Prim.Native.Nat.{ℕ, ◌+◌, ◌≤◌, ◌<◌}
 use native.Mathlib.Omega.{arith}
 use lib.ListN.{length, set, length-append}
-use types.Run.{OneOf, miss}
-use denote.Enum.Declared.{tag_of}
-use Rattle.std.specs.Prelude.{Option, None, Some}
+use Rattle.std.specs.Prelude.{Option, Some}
 use Rattle.refusals.specs.declared.Refusal.{Refusal}
 use Rattle.refusals.specs.Refusals.{number_of, number_of_any}
-use Rattle.records.specs.contracts.Reading.{the_type}
 use Rattle.records.proofs.Walking.{accepted_inside, stops_nothing, stops_unknown, stops_short, stops_faulty}
 use Rattle.records.specs.Reader.{read_at}
 use Rattle.records.specs.Walking.{Stop, unread_number, walk, none, one}

@@ -9,8 +9,6 @@ use Prim.Native.Nat.{ℕ, ◌+◌, ◌≤◌, ◌<◌}
 use native.Mathlib.Omega.{arith}
 use borrow.Author.Tests.{eq-eqb, ne_eqb, not-true, not-false}
 use lib.ListN.{length, get_or}
-use types.Run.{OneOf, miss}
-use denote.Enum.Declared.{tag_of}
 use Rattle.std.specs.Prelude.{Option, None, Some}
 use Rattle.numbers.specs.Numbers.{is_nil}
 use Rattle.refusals.specs.declared.Refusal.{Refusal}
@@ -18,7 +16,6 @@ use Rattle.refusals.specs.declared.Refusal.TheVariants.{TooManyBytes}
 use Rattle.refusals.specs.Refusals.{number_of, number_of_any, refusals, refusal_of_number}
 use Rattle.sets.specs.Sets.{within, is_empty}
 use Rattle.sets.proofs.Tests.{and_yes}
-use Rattle.records.specs.contracts.Reading.{the_type}
 use Rattle.records.specs.Reader.{read_at}
 use Rattle.records.specs.Walking as Walks
 use Rattle.records.specs.Walking.{Stop, unread_number}

@@ -19,7 +19,7 @@ use Rattle.query.specs.Reading.{query_of}
 use Rattle.query.specs.Accepting.{StopsWith}
 use Rattle.query.specs.Statements.{FaultMeans, SaysComparison, RecordsAsk, AttributesAre, ContainingList}
 use Rattle.query.specs.Statements.{ReadExactly, AcceptedFits, NumberMeans, RefusalNumbered}
-use Rattle.query.proofs.Conditions.{three, fault_first, first_fault}
+use Rattle.query.proofs.Conditions.{fault_first, first_fault}
 use Rattle.query.proofs.Names.{items_gathered, comparisons_gathered, names_in, in_names, names_whole, named_in}
 use Rattle.query.proofs.Names.{in_named, asked_whole}
 use Rattle.query.proofs.Asking.{conjunction_of}

@@ -4,7 +4,7 @@
 -- number.
 -- Assumes nothing.
 use Rattle.std.specs.Prelude.{◌≡◌, ◌⊎◌, ◌↔◌, ℕ, ◌≤◌, ◌<◌, length, get_or, take}
-use mathlib.Core.List.{List, [], ◌∷◌, ◌++◌, Memᴰ}
+use mathlib.Core.List.{List, [], Memᴰ}
 use Rattle.refusals.specs.Refusals.{number_of_any}
 use Rattle.sets.specs.Sets.{◌∈◌, ATTRIBUTES}
 use Rattle.records.specs.Checks.{First}

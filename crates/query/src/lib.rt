@@ -352,7 +352,7 @@ fn unread(found: Reading) -> Option<Refusal>
 {
     match found {
         Reading::Nothing => Some(Refusal::CutShort),
-        other => records::unread(other, Owner::Query),
+        _ => records::unread(found, Owner::Query),
     }
 }
 

@@ -1,8 +1,6 @@
 -- `book::walk` meets its contract. The invariant: the records passed are accepted, their rows counted and stored
 -- (`Walking`). The measure: the bytes left. Assumes nothing.
-use Prim.Native.Nat.{◌-◌}
-use mathlib.Core.Path.{refl, sym, ◌∙◌}
-use mathlib.Core.Logic.{⊎_elim}
+use mathlib.Core.Path.{refl, sym}
 use native.Mathlib.Omega.{arith}
 use Rattle.records.proofs.Reader.{found_after, whole_read_at}
 use Rattle.records.proofs.Checks.{tested}

@@ -1,6 +1,5 @@
 -- `query::some_unconnected` meets its contract. The invariant: no variable before the place is unconnected (`NoneUnconnected`).
 -- Assumes nothing.
-use mathlib.Core.Logic.{⊎_elim}
 use borrow.Author.Rules.{rules}
 use Rattle.query.proofs.Loops.{variables_start, variable_not_named, variable_found}
 use Rattle.query.proofs.Loops.{variable_connected, variables_end}

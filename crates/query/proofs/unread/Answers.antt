@@ -8,5 +8,5 @@ pub returns-in-Nothing : goal.returns-in-Nothing
 unfolding stop_number
 returns-in-Nothing c = ap stop_number (sym c.in-Nothing.is)
 
-pub returns-in-other : goal.returns-in-other
-returns-in-other c = let d = c.in-other in ?
+pub returns-in_default : goal.returns-in_default
+returns-in_default c = c.unread.ensures ∙ unread_elsewhere _ c.in_default.not-Nothing

@@ -1,7 +1,6 @@
 -- `query::walk` meets its contract. The invariant: the records passed are accepted, and the code has what they ask
 -- (`Walking`). The measure: the bytes left. Assumes nothing.
-use Prim.Native.Nat.{◌-◌}
-use mathlib.Core.Path.{sym, ◌∙◌}
+use mathlib.Core.Path.{sym}
 use native.Mathlib.Omega.{arith}
 use Rattle.records.proofs.Checks.{tested}
 use Rattle.records.proofs.Reader.{found_after, whole_read_at}
