@@ -13,4 +13,4 @@ pub returns-else-v-n : goal.returns-else-v-n
 returns-else-v-n c = search (rules, after_no)
 
 pub returns-in_default : goal.returns-in_default
-returns-in_default c = after_other _ _ c.in_default.not-WordAt ∙ ap (after_token _) c.token_at-t.ensures
+returns-in_default c = after_other _ _ c.in_default.not-WordAt ∙ ap (after_token _) c.token_at.ensures
