@@ -11,8 +11,8 @@ use Rattle.std.proofs.Common.{Option as CodeOption, Some, None}
 use Rattle.std.proofs.lemmas.Option.{same_Some}
 use Rattle.grammar.specs.Pieces.{Word, word}
 use Rattle.grammar.specs.Grammar.{Condition}
-use Rattle.grammar.specs.Parser.{found, next_at, word_number, behind, Parsed, failed, parsed, ◌and_then◌, if_word, Deep}
-use Rattle.text.specs.Tokens.{token_at}
+use Rattle.grammar.specs.Parser.{found, next_at, behind, Parsed, failed, parsed, ◌and_then◌, if_word, Deep}
+use Rattle.text.specs.Tokens.{code_word, token_at}
 use Rattle.text.specs.Programs.{program, written, ShowsParsed, Shows, Gave, after_token, with_word, word_written}
 use Rattle.text.specs.declared.Parse.{Parse}
 use Rattle.grammar.proofs.Nexts.{Within, found_within}
@@ -154,7 +154,7 @@ module _ (s : List ℕ) (w : Word) (join : Condition → Condition → Condition
 
       -- ---- the end
 
-      pub round_ends : None ≡ after_token (word_number w) (token_at s r.next) → Whole after (Some r)
+      pub round_ends : None ≡ after_token (code_word w) (token_at s r.next) → Whole after (Some r)
       round_ends e =
           record {
             given = parsed g.so_far g.next;
@@ -169,7 +169,7 @@ module _ (s : List ℕ) (w : Word) (join : Condition → Condition → Condition
           last zero l = absurd (omega arith)
           last (suc k) l = laws.more_is k g.so_far g.next ∙ if_none _ _ stops
 
-      module _ (next : ℕ) (e : Some next ≡ after_token (word_number w) (token_at s r.next)) where
+      module _ (next : ℕ) (e : Some next ≡ after_token (code_word w) (token_at s r.next)) where
         word_there : next_at s r.next ≡ found (word w) next
         word_there = after_some w s r.next next e
 

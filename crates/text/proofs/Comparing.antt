@@ -15,8 +15,10 @@ use Rattle.grammar.specs.Parser.{Next, at_end, wrong, found, next_at, Parsed, fa
 use Rattle.grammar.specs.Parser.{operand_of, ◌and_then◌, comparison_at}
 use Rattle.text.specs.Tokens.{operator_number, variable_number, name_number, magnitude, constant_token, token_of, shown}
 use Rattle.text.specs.Tokens.{token_at}
-use Rattle.text.specs.Programs.{sign_word, constant_words, operand_words, comparison_words, program, compared_words}
+use Rattle.text.specs.Programs.{sign_word, constant_words, operand_words, comparison_words, program, compared_words, right_words}
 use Rattle.text.specs.Programs.{ComparedShows}
+use Rattle.text.specs.declared.Operand.{Operand as CodeOperand}
+use Rattle.text.specs.declared.Operand.TheVariants as Side
 use Rattle.text.specs.declared.Token.{Token}
 use Rattle.text.specs.declared.Token.TheVariants.{OperatorAt, ItemAt, NumberAt}
 use Rattle.text.specs.contracts.Token.{the_type}
@@ -188,15 +190,14 @@ module _ (s : List ℕ) (at : ℕ) where
       third_fails e k m =
           fails s at (before_third (no_operand (next_at s late) (subst NoItem e k) (subst NoNumber e m)))
 
-      done : (x : Operand) (v2 m2 next : ℕ) → operand_of (next_at s late) ≡ parsed x next → late < next
-          → next ≤ length s → v2 ∷ m2 ∷ [] ≡ operand_words x
-          → ComparedShows s at
-          (Some (record { letter = v; name = m; operator = o; letter2 = v2; name2 = m2; next = next }))
+      done : (x : Operand) (right : CodeOperand) (next : ℕ) → operand_of (next_at s late) ≡ parsed x next → late < next
+          → next ≤ length s → right_words right ≡ operand_words x
+          → ComparedShows s at (Some (record { letter = v; name = m; operator = o; right = right; next = next }))
           (comparison_at s at)
       unfolding ◌and_then◌ ComparedShows compared_words program comparison_words
-      done x v2 m2 next g h k w =
+      done x right next g h k w =
           subst (ComparedShows s at _) (sym (before_third g)) (record {
-            found = record { letter = v; name = m; operator = o; letter2 = v2; name2 = m2; next = next };
+            found = record { letter = v; name = m; operator = o; right = right; next = next };
             same = refl;
             behind = refl;
             words = λ j. 0 ∷ sym i1.letter j ∷ sym i1.name j ∷ sym i2.same j ∷ w j;
@@ -207,23 +208,22 @@ module _ (s : List ℕ) (at : ℕ) where
 
       pub third_item : (v2 m2 next : ℕ) → ItemAt v2 m2 next ≡ token_at s late
           → ComparedShows s at
-          (Some (record { letter = v; name = m; operator = o; letter2 = v2; name2 = m2; next = next }))
+          (Some (record { letter = v; name = m; operator = o; right = Side.Item v2 m2; next = next }))
           (comparison_at s at)
-      unfolding operand_of token_at operand_words
+      unfolding operand_of token_at operand_words right_words
       third_item v2 m2 next e3 =
           let i3 = the_item (next_at s late) v2 m2 next (sym e3) in
           let w = found_within s late i3.is in
-          done (of_item i3.it) v2 m2 next (ap operand_of i3.is) w.after w.inside
+          done (of_item i3.it) (Side.Item v2 m2) next (ap operand_of i3.is) w.after w.inside
           (λ j. sym i3.letter j ∷ sym i3.name j ∷ [])
 
-      pub third_constant : (minus : Bool) (v2 m2 next : ℕ) → NumberAt minus m2 next ≡ token_at s late
-          → v2 ≡ sign_word minus
+      pub third_constant : (minus : Bool) (m2 next : ℕ) → NumberAt minus m2 next ≡ token_at s late
           → ComparedShows s at
-          (Some (record { letter = v; name = m; operator = o; letter2 = v2; name2 = m2; next = next }))
+          (Some (record { letter = v; name = m; operator = o; right = Side.Constant minus m2; next = next }))
           (comparison_at s at)
-      unfolding operand_of token_at operand_words constant_words
-      third_constant minus v2 m2 next e3 sg =
+      unfolding operand_of token_at operand_words constant_words right_words
+      third_constant minus m2 next e3 =
           let i3 = the_constant (next_at s late) minus m2 next (sym e3) in
           let w = found_within s late i3.is in
-          done (of_constant (number minus i3.digits)) v2 m2 next (ap operand_of i3.is) w.after w.inside
-          (λ j. sg j ∷ sym i3.same j ∷ [])
+          done (of_constant (number minus i3.digits)) (Side.Constant minus m2) next (ap operand_of i3.is) w.after w.inside
+          (λ j. sign_word minus ∷ sym i3.same j ∷ [])

@@ -7,10 +7,11 @@ use Prim.Native.Nat.{ℕ, zero, suc, ◌+◌, ◌-◌, ◌*◌, ◌≤◌, ◌<�
 use native.Mathlib.Omega.{arith}
 use lib.ListN.{length, length-append}
 use Rattle.grammar.specs.Pieces.{Item, Comma, word}
-use Rattle.grammar.specs.Parser.{found, next_at, word_number, Parsed, failed, parsed, item_of, ◌and_then◌, items_at}
-use Rattle.text.specs.Tokens.{variable_number, name_number, token_at}
+use Rattle.grammar.specs.Parser.{found, next_at, Parsed, failed, parsed, item_of, ◌and_then◌, items_at}
+use Rattle.text.specs.Tokens.{code_word, variable_number, name_number, token_at}
 use Rattle.text.specs.Programs.{item_words, written, after_token, ItemsShow}
 use Rattle.std.proofs.Common.{Option as CodeOption, Some, None}
+use Rattle.text.specs.declared.Word.TheVariants as Code
 use Rattle.text.specs.declared.Token.{Token}
 use Rattle.text.specs.declared.Token.TheVariants.{ItemAt}
 use Rattle.text.specs.declared.Items.{Items}
@@ -160,10 +161,10 @@ module _ (s : List ℕ) (at : ℕ) (before : List ℕ) where
       taken (suc j) h = (j, refl)
 
       -- the last
-      pub going_last : {x place : ℕ} {once out' : List ℕ} {k : ℕ} → None ≡ after_token 7 (token_at s mid) → x ≡ v
+      pub going_last : {x place : ℕ} {once out' : List ℕ} {k : ℕ} → None ≡ after_token Code.Comma (token_at s mid) → x ≡ v
           → once ≡ written (2 * n) (x ∷ []) out → place ≡ 2 * n + 1 → out' ≡ written place (m ∷ []) once → k ≡ n + 1
           → ItemsShow s at before out' (Some (record { count = k; next = mid })) (items_at (length s) s at)
-      unfolding ItemsShow items_at item_of more word_number
+      unfolding ItemsShow items_at item_of more code_word
       going_last {out' = out'} {k = k} c y h p w q =
           let (j, a) = taken g.left g.enough in
           let last : items_at g.left s here ≡ parsed (there.it ∷ []) mid =
@@ -179,9 +180,9 @@ module _ (s : List ℕ) (at : ℕ) (before : List ℕ) where
             few = omega (arith, more_long, g.few, mid_within.after);
           })
 
-      module _ (comma : ℕ) (c : Some comma ≡ after_token 7 (token_at s mid)) where
+      module _ (comma : ℕ) (c : Some comma ≡ after_token Code.Comma (token_at s mid)) where
         comma_there : next_at s mid ≡ found (word Comma) comma
-        unfolding word_number
+        unfolding code_word
         comma_there = after_some Comma s mid comma c
 
         pub comma_within : Within s mid comma

@@ -13,12 +13,15 @@ use Rattle.std.proofs.Common.{Option as CodeOption, Some, None}
 use Rattle.std.proofs.lemmas.Option.{same_Some}
 use Rattle.grammar.specs.Pieces.{word, And, Or, Not, Opening, Closing}
 use Rattle.grammar.specs.Grammar.{negated, both, either}
-use Rattle.grammar.specs.Parser.{found, next_at, word_number, behind, Parsed, failed, parsed, ◌and_then◌, if_word, Deep}
+use Rattle.grammar.specs.Parser.{found, next_at, behind, Parsed, failed, parsed, ◌and_then◌, if_word, Deep}
 use Rattle.grammar.specs.Parser.{comparison_at, or_at, or_more, and_at, and_more, not_at, primary_at, condition_at}
-use Rattle.text.specs.Tokens.{token_at}
+use Rattle.text.specs.Tokens.{code_word, token_at}
 use Rattle.text.specs.Programs.{program, written, Shows, Gave, after_token, with_word, word_written}
-use Rattle.text.specs.Programs.{closed_by, closing, compared_words, ComparedParsed, ComparedShows}
+use Rattle.text.specs.Programs.{closed_by, closing, compared_words, right_words, ComparedParsed, ComparedShows}
+use Rattle.text.specs.declared.Word.TheVariants as Code
 use Rattle.text.specs.declared.Parse.{Parse}
+use Rattle.text.specs.declared.Operand.{Operand as CodeOperand}
+use Rattle.text.specs.declared.Operand.TheVariants as Side
 use Rattle.text.specs.declared.Compared.{Compared}
 use Rattle.grammar.proofs.Nexts.{Within, found_within}
 use Rattle.grammar.proofs.Complete.{takes_word, if_some, if_none, then_parsed}
@@ -30,16 +33,21 @@ use Rattle.text.proofs.Chains.{condition_none, word_value, word_words, Chain, Ro
 -- ---- the closing parenthesis
 
 module _ (s : List ℕ) (c : Parse) where
-  pub closed_missing : None ≡ after_token 6 (token_at s c.next) → None ≡ closing s c
+  pub closed_missing : None ≡ after_token Code.Close (token_at s c.next) → None ≡ closing s c
   unfolding closing closed_by
   closed_missing e = ap (closed_by c) e
 
-  pub closed_there : (next : ℕ) → Some next ≡ after_token 6 (token_at s c.next)
+  pub closed_there : (next : ℕ) → Some next ≡ after_token Code.Close (token_at s c.next)
       → Some (record { next = next; depth = c.depth + 1; end = c.end }) ≡ closing s c
   unfolding closing closed_by
   closed_there next e = ap (closed_by c) e
 
 -- ---- the words of a comparison
+
+right_long : (x : CodeOperand) → length (right_words x) ≡ 2
+unfolding right_words
+right_long (Side.Item v m) = refl
+right_long (Side.Constant minus m) = refl
 
 module _ (s : List ℕ) (at to : ℕ) (before : List ℕ) where
   pub comparison_fails : ComparedShows s at None (comparison_at s at)
@@ -84,7 +92,7 @@ module _ (s : List ℕ) (at to : ℕ) (before : List ℕ) where
 
       long : length (program there.condition.condition) ≡ 6
       unfolding compared_words
-      long = sym (ap length its_words)
+      long = sym (ap length its_words) ∙ omega (arith, right_long x.right)
 
       pub comparison_done : Gave (λ n. comparison_at s at) 0 s at to before after
           (Some (record { next = x.next; depth = 0; end = end }))
@@ -156,9 +164,9 @@ module _ (s : List ℕ) (at to : ℕ) (before : List ℕ) (room : to + 2 * (leng
 
   -- ---- `not`
 
-  pub not_plain : None ≡ after_token 2 (token_at s at) → (after : List ℕ) (r : CodeOption Parse)
+  pub not_plain : None ≡ after_token Code.Not (token_at s at) → (after : List ℕ) (r : CodeOption Parse)
       → PrimaryGave after r → NotGave after r
-  unfolding word_number
+  unfolding code_word
   not_plain e after r g = record { given = g.given; steady = go; shown = g.shown }
     where
       stops : behind Not (next_at s at) ≡ none
@@ -168,14 +176,14 @@ module _ (s : List ℕ) (at to : ℕ) (before : List ℕ) (room : to + 2 * (leng
       go zero l = absurd (omega arith)
       go (suc n) l = unfold or_at in (if_none _ _ stops ∙ g.steady n (omega arith))
 
-  module _ (next : ℕ) (e : Some next ≡ after_token 2 (token_at s at)) where
+  module _ (next : ℕ) (e : Some next ≡ after_token Code.Not (token_at s at)) where
     pub not_within : Within s at next
-    unfolding word_number
+    unfolding code_word
     not_within = found_within s at (after_some Not s at next e)
 
     step : (m : ℕ) → not_at (suc m) s at
         ≡ (not_at m s next and_then λ c end. parsed (record { condition = negated c.condition; depth = c.depth }) end)
-    unfolding word_number or_at
+    unfolding code_word or_at
     step m = if_some _ _ (takes_word s at Not (after_some Not s at next e))
 
     abbrev InnerNot : List ℕ → CodeOption Parse → Type 0
@@ -241,9 +249,9 @@ module _ (s : List ℕ) (at to : ℕ) (before : List ℕ) (room : to + 2 * (leng
 
   -- ---- primaries
 
-  pub primary_plain : None ≡ after_token 5 (token_at s at) → (after : List ℕ) (r : CodeOption Parse)
+  pub primary_plain : None ≡ after_token Code.Open (token_at s at) → (after : List ℕ) (r : CodeOption Parse)
       → Gave (λ n. comparison_at s at) 0 s at to before after r → PrimaryGave after r
-  unfolding word_number
+  unfolding code_word
   primary_plain e after r g = record { given = g.given; steady = go; shown = g.shown }
     where
       stops : behind Opening (next_at s at) ≡ none
@@ -253,9 +261,9 @@ module _ (s : List ℕ) (at to : ℕ) (before : List ℕ) (room : to + 2 * (leng
       go zero l = absurd (omega arith)
       go (suc n) l = unfold or_at in (if_none _ _ stops ∙ g.steady 0 (omega arith))
 
-  module _ (next : ℕ) (e : Some next ≡ after_token 5 (token_at s at)) where
+  module _ (next : ℕ) (e : Some next ≡ after_token Code.Open (token_at s at)) where
     pub primary_within : Within s at next
-    unfolding word_number
+    unfolding code_word
     primary_within = found_within s at (after_some Opening s at next e)
 
     abbrev closed_or : Deep → ℕ → Parsed Deep
@@ -263,7 +271,7 @@ module _ (s : List ℕ) (at to : ℕ) (before : List ℕ) (room : to + 2 * (leng
         (λ end. parsed (record { condition = c.condition; depth = suc c.depth }) end) (λ u. failed)
 
     primary_step : (m : ℕ) → primary_at (suc m) s at ≡ (or_at m s next and_then closed_or)
-    unfolding or_at word_number
+    unfolding or_at code_word
     primary_step m = if_some _ _ (takes_word s at Opening (after_some Opening s at next e))
 
     abbrev InnerOr : List ℕ → CodeOption Parse → Type 0
@@ -292,8 +300,8 @@ module _ (s : List ℕ) (at to : ℕ) (before : List ℕ) (room : to + 2 * (leng
       h = condition_found s next to before after q p.given p.shown
 
       -- the closing parenthesis is there, or it is not
-      ends : (x : CodeOption ℕ) → x ≡ after_token 6 (token_at s q.next) → PrimaryGave after (closed_by q x)
-      unfolding Shows closed_by word_number
+      ends : (x : CodeOption ℕ) → x ≡ after_token Code.Close (token_at s q.next) → PrimaryGave after (closed_by q x)
+      unfolding Shows closed_by code_word
       ends None e6 = record {
         given = failed;
         steady = primary_steady p.given failed p.steady (then_parsed _ h.is ∙ if_none _ _
@@ -323,7 +331,7 @@ module _ (s : List ℕ) (at to : ℕ) (before : List ℕ) (room : to + 2 * (leng
       pub primary_closed : (r : CodeOption Parse) → r ≡ closing s q → PrimaryGave after r
       unfolding closing
       primary_closed r er =
-          subst (λ (x : CodeOption Parse). PrimaryGave after x) (sym er) (ends (after_token 6 (token_at s q.next)) refl)
+          subst (λ (x : CodeOption Parse). PrimaryGave after x) (sym er) (ends (after_token Code.Close (token_at s q.next)) refl)
 
 -- ---- the chains
 
@@ -360,12 +368,12 @@ AndKeeps s at to first c₀ out c =
     → Round s And both 2 2 (λ n at. and_at n s at) (λ n at. not_at n s at) (λ n c at. and_more n s c at) at to before out c
 
 -- six words, one behind the other
-module _ (x : Compared) (to a1 a2 a3 a4 a5 a6 : ℕ) (o0 o1 o2 o3 o4 o5 o6 : List ℕ) (w1 w2 w3 : ℕ)
+module _ (x : Compared) (to a1 a2 a3 a4 a5 a6 : ℕ) (o0 o1 o2 o3 o4 o5 o6 : List ℕ) (w1 w2 w3 w4 : ℕ)
     (room : to + 6 ≤ length o0) (e1 : a1 ≡ to + 1) (e2 : a2 ≡ a1 + 1) (e3 : a3 ≡ a2 + 1) (e4 : a4 ≡ a3 + 1)
     (e5 : a5 ≡ a4 + 1) (e6 : a6 ≡ a5 + 1) (f1 : o1 ≡ written to (0 ∷ []) o0) (f2 : o2 ≡ written a1 (w1 ∷ []) o1)
     (f3 : o3 ≡ written a2 (x.name ∷ []) o2) (f4 : o4 ≡ written a3 (w2 ∷ []) o3)
-    (f5 : o5 ≡ written a4 (w3 ∷ []) o4) (f6 : o6 ≡ written a5 (x.name2 ∷ []) o5) (g1 : w1 ≡ x.letter)
-    (g2 : w2 ≡ x.operator) (g3 : w3 ≡ x.letter2) where
+    (f5 : o5 ≡ written a4 (w3 ∷ []) o4) (f6 : o6 ≡ written a5 (w4 ∷ []) o5) (g1 : w1 ≡ x.letter)
+    (g2 : w2 ≡ x.operator) (g3 : w3 ∷ w4 ∷ [] ≡ right_words x.right) where
   one_on : (k a : ℕ) (l o o' : List ℕ) (w : ℕ) → o ≡ written to l o0 → length l ≡ k → a ≡ to + k → k < 6
       → o' ≡ written a (w ∷ []) o → o' ≡ written to (l ++ w ∷ []) o0
   one_on k a l o o' w f g e h q =
@@ -379,8 +387,8 @@ module _ (x : Compared) (to a1 a2 a3 a4 a5 a6 : ℕ) (o0 o1 o2 o3 o4 o5 o6 : Lis
       let h3 = one_on 2 a2 (0 ∷ w1 ∷ []) o2 o3 x.name h2 refl (omega arith) (omega arith) f3 in
       let h4 = one_on 3 a3 (0 ∷ w1 ∷ x.name ∷ []) o3 o4 w2 h3 refl (omega arith) (omega arith) f4 in
       let h5 = one_on 4 a4 (0 ∷ w1 ∷ x.name ∷ w2 ∷ []) o4 o5 w3 h4 refl (omega arith) (omega arith) f5 in
-      let h6 = one_on 5 a5 (0 ∷ w1 ∷ x.name ∷ w2 ∷ w3 ∷ []) o5 o6 x.name2 h5 refl (omega arith) (omega arith) f6 in
-      (omega arith, h6 ∙ (λ i. written to (0 ∷ g1 i ∷ x.name ∷ g2 i ∷ g3 i ∷ x.name2 ∷ []) o0))
+      let h6 = one_on 5 a5 (0 ∷ w1 ∷ x.name ∷ w2 ∷ w3 ∷ []) o5 o6 w4 h5 refl (omega arith) (omega arith) f6 in
+      (omega arith, h6 ∙ (λ i. written to (0 ∷ g1 i ∷ x.name ∷ g2 i ∷ g3 i) o0))
 
 -- ---- a whole condition
 

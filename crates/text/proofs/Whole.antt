@@ -12,12 +12,13 @@ use Rattle.std.proofs.Common.{Option as CodeOption, Some, None}
 use Rattle.std.proofs.lemmas.Option.{same_Some}
 use Rattle.grammar.specs.Pieces.{Item, Constant, number, Retrieve, Where, Opening, Closing, word, operator, item, constant}
 use Rattle.grammar.specs.Grammar.{Reading}
-use Rattle.grammar.specs.Parser.{Next, at_end, wrong, found, next_at, word_number, behind, Parsed, failed, parsed, ◌and_then◌}
+use Rattle.grammar.specs.Parser.{Next, at_end, wrong, found, next_at, behind, Parsed, failed, parsed, ◌and_then◌}
 use Rattle.grammar.specs.Parser.{if_word, items_at, or_at, condition_at, Deep, whole, conditioned, text_end, head_at, parse}
-use Rattle.text.specs.Tokens.{constant_token, token_of, shown, token_at}
+use Rattle.text.specs.Tokens.{code_word, constant_token, token_of, shown, token_at}
 use Rattle.text.specs.Programs.{program, condition_words, condition_depth, item_words, written}
 use Rattle.text.specs.Programs.{Gave, after_token, ItemsParsed, ItemsShow, is_at_end, text_if}
 use Rattle.text.specs.Programs.{reading_words, text_of, TextShows}
+use Rattle.text.specs.declared.Word.TheVariants as Code
 use Rattle.text.specs.declared.Token.{Token}
 use Rattle.text.specs.declared.Token.TheVariants.{AtEnd, NoPiece, WordAt, OperatorAt, ItemAt, NumberAt}
 use Rattle.text.specs.declared.Parse.{Parse}
@@ -104,27 +105,27 @@ unfolding parse
 head_failed s e = rw (parse, e)
 
 module _ (s : List ℕ) where
-  pub no_retrieve : None ≡ after_token 0 (token_at s 0) → parse s ≡ none
-  unfolding head_at word_number
+  pub no_retrieve : None ≡ after_token Code.Retrieve (token_at s 0) → parse s ≡ none
+  unfolding head_at code_word
   no_retrieve e = head_failed s (if_none _ _ (after_none Retrieve s 0 e))
 
-module _ (s : List ℕ) (first : ℕ) (e1 : Some first ≡ after_token 0 (token_at s 0)) where
+module _ (s : List ℕ) (first : ℕ) (e1 : Some first ≡ after_token Code.Retrieve (token_at s 0)) where
   retrieve_there : next_at s 0 ≡ found (word Retrieve) first
-  unfolding word_number
+  unfolding code_word
   retrieve_there = after_some Retrieve s 0 first e1
 
   pub first_inside : first ≤ length s
   first_inside = (found_within s 0 retrieve_there).inside
 
-  pub no_opening : None ≡ after_token 5 (token_at s first) → parse s ≡ none
-  unfolding head_at word_number
+  pub no_opening : None ≡ after_token Code.Open (token_at s first) → parse s ≡ none
+  unfolding head_at code_word
   no_opening e =
       head_failed s (if_some _ _ (takes_word s 0 Retrieve retrieve_there)
       ∙ if_none _ _ (after_none Opening s first e))
 
-  module _ (second : ℕ) (e2 : Some second ≡ after_token 5 (token_at s first)) where
+  module _ (second : ℕ) (e2 : Some second ≡ after_token Code.Open (token_at s first)) where
     opening_there : next_at s first ≡ found (word Opening) second
-    unfolding word_number
+    unfolding code_word
     opening_there = after_some Opening s first second e2
 
     pub second_inside : second ≤ length s
@@ -173,18 +174,18 @@ module _ (s : List ℕ) (first : ℕ) (e1 : Some first ≡ after_token 0 (token_
             ∙ written_length 0 (item_words list.items) before
             (omega (arith, words_long list.items, list.shown.few, list.shown.forward, list.shown.inside, room))
 
-        pub no_closing : None ≡ after_token 6 (token_at s r.next) → parse s ≡ none
-        unfolding word_number
+        pub no_closing : None ≡ after_token Code.Close (token_at s r.next) → parse s ≡ none
+        unfolding code_word
         no_closing e =
             head_failed s (head_is ∙ then_parsed _ list.is
             ∙ if_none _ _ (after_none Closing s list.next
-            (e ∙ ap (λ (k : ℕ). after_token 6 (token_at s k)) next_is)))
+            (e ∙ ap (λ (k : ℕ). after_token Code.Close (token_at s k)) next_is)))
 
-        module _ (fourth : ℕ) (e4 : Some fourth ≡ after_token 6 (token_at s r.next)) where
+        module _ (fourth : ℕ) (e4 : Some fourth ≡ after_token Code.Close (token_at s r.next)) where
           closing_there : next_at s list.next ≡ found (word Closing) fourth
-          unfolding word_number
+          unfolding code_word
           closing_there =
-              after_some Closing s list.next fourth (e4 ∙ ap (λ (k : ℕ). after_token 6 (token_at s k)) next_is)
+              after_some Closing s list.next fourth (e4 ∙ ap (λ (k : ℕ). after_token Code.Close (token_at s k)) next_is)
 
           fourth_within : Within s list.next fourth
           fourth_within = found_within s list.next closing_there
@@ -203,11 +204,11 @@ module _ (s : List ℕ) (first : ℕ) (e1 : Some first ≡ after_token 0 (token_
           -- ---- behind its items
 
           -- no condition
-          pub plain_shows : {t : CodeOption Text} {from : ℕ} → None ≡ after_token 1 (token_at s fourth)
+          pub plain_shows : {t : CodeOption Text} {from : ℕ} → None ≡ after_token Code.Where (token_at s fourth)
               → from ≡ 2 * r.count
               → t ≡ text_if (is_at_end (token_at s fourth)) (record { items = r.count; depth = None; end = from })
               → TextShows before out t (parse s)
-          unfolding text_end token_at word_number text_of reading_words condition_words condition_depth
+          unfolding text_end token_at code_word text_of reading_words condition_words condition_depth
           plain_shows {t} {from} e5 f g =
               let rd : Reading = record { items = list.items; condition = none; depth = 0 } in
               let p : parse s ≡ whole rd (next_at s fourth) =
@@ -222,9 +223,9 @@ module _ (s : List ℕ) (first : ℕ) (e1 : Some first ≡ after_token 0 (token_
               (list.shown.stands ∙ ap (λ (l : List ℕ). written 0 l before) (sym ws)) list_long)
 
           -- a condition
-          module _ (wanted : ℕ) (e5 : Some wanted ≡ after_token 1 (token_at s fourth)) where
+          module _ (wanted : ℕ) (e5 : Some wanted ≡ after_token Code.Where (token_at s fourth)) where
             where_there : next_at s fourth ≡ found (word Where) wanted
-            unfolding word_number
+            unfolding code_word
             where_there = after_some Where s fourth wanted e5
 
             wanted_within : Within s fourth wanted

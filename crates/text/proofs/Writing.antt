@@ -6,17 +6,19 @@ use mathlib.Core.Bool.{Bool, true, false, cond}
 use mathlib.Core.List.{List, [], ◌∷◌, ◌++◌, append_assoc}
 use mathlib.Core.Option.{Option, none, some}
 use Rattle.std.proofs.Common.{Option as CodeOption, Some, None}
-use Prim.Native.Nat.{ℕ, ◌+◌, ◌≤◌, ◌<◌, max}
+use Prim.Native.Nat.{ℕ, zero, suc, ◌+◌, ◌≤◌, ◌<◌, max}
 use native.Mathlib.Numerals.{add-one}
 use native.Mathlib.Omega.{arith}
 use borrow.Author.Tests.{eq-eqb, ne_eqb}
 use lib.Dec.{eqb}
 use lib.ListN.{length, take, drop, set, length-append, length-drop}
 use lib.Seq.{take_at, drop_at, length-take-le, drop-drop, set_split}
-use Rattle.grammar.specs.Pieces.{Word, word, operator, item, constant, Constant, number}
+use Rattle.grammar.specs.Pieces.{Word, Retrieve, Where, Not, And, Or, Opening, Closing, Comma, word, operator, item, constant, Constant, number}
 use Rattle.grammar.specs.Parser.{Next, at_end, wrong, found, next_at, word_number, behind}
-use Rattle.text.specs.Tokens.{constant_token, token_of, shown, token_at}
+use Rattle.text.specs.Tokens.{code_word, code_word_number, constant_token, token_of, shown, token_at}
 use Rattle.text.specs.Programs.{written, after_token, with_word, word_written}
+use Rattle.text.specs.declared.Word.{Word as CodeWord}
+use Rattle.text.specs.declared.Word.TheVariants as Code
 use Rattle.text.specs.declared.Token.{Token}
 use Rattle.text.specs.declared.Token.TheVariants.{AtEnd, NoPiece, WordAt, OperatorAt, ItemAt, NumberAt}
 use Rattle.text.specs.declared.Parse.{Parse}
@@ -74,32 +76,72 @@ module _ (at : ℕ) (s t bytes : List ℕ) (h : at + length s ≤ length bytes) 
 
 -- ---- the word behind a position
 
-module _ (t : Token) (n : ℕ) where
-  pub after_yes : (v next : ℕ) → WordAt v next ≡ t → v ≡ n → Some next ≡ after_token n t
-  unfolding after_token
-  after_yes v next e h = sym (ap (after_token n) (sym e) ∙ rw (eq-eqb v n h))
+-- words are told apart by their numbers
+word_of_number : ℕ → CodeWord
+word_of_number zero = Code.Retrieve
+word_of_number (suc zero) = Code.Where
+word_of_number (suc (suc zero)) = Code.Not
+word_of_number (suc (suc (suc zero))) = Code.And
+word_of_number (suc (suc (suc (suc zero)))) = Code.Or
+word_of_number (suc (suc (suc (suc (suc zero))))) = Code.Open
+word_of_number (suc (suc (suc (suc (suc (suc zero)))))) = Code.Close
+word_of_number (suc (suc (suc (suc (suc (suc (suc n))))))) = Code.Comma
 
-  pub after_no : (v next : ℕ) → WordAt v next ≡ t → (v ≡ n → ⊥) → None ≡ after_token n t
-  unfolding after_token
-  after_no v next e h = sym (ap (after_token n) (sym e) ∙ rw (ne_eqb v n h))
+numbered : (w : CodeWord) → word_of_number (code_word_number w) ≡ w
+unfolding word_of_number code_word_number
+numbered Code.Retrieve = refl
+numbered Code.Where = refl
+numbered Code.Not = refl
+numbered Code.And = refl
+numbered Code.Or = refl
+numbered Code.Open = refl
+numbered Code.Close = refl
+numbered Code.Comma = refl
 
-pub after_other : (t : Token) (n : ℕ) → ((v next : ℕ) → t ≡ WordAt v next → ⊥) → None ≡ after_token n t
+same_word : (v w : CodeWord) → code_word_number v ≡ code_word_number w → v ≡ w
+same_word v w e = sym (numbered v) ∙ ap word_of_number e ∙ numbered w
+
+word_numbered : (w : Word) → code_word_number (code_word w) ≡ word_number w
+unfolding code_word code_word_number word_number
+word_numbered Retrieve = refl
+word_numbered Where = refl
+word_numbered Not = refl
+word_numbered And = refl
+word_numbered Or = refl
+word_numbered Opening = refl
+word_numbered Closing = refl
+word_numbered Comma = refl
+
+module _ (t : Token) (w : CodeWord) where
+  pub after_yes : (v : CodeWord) (next : ℕ) → WordAt v next ≡ t → v ≡ w → Some next ≡ after_token w t
+  unfolding after_token
+  after_yes v next e h =
+      sym (ap (after_token w) (sym e) ∙ rw (eq-eqb (code_word_number v) (code_word_number w) (ap code_word_number h)))
+
+  pub after_no : (v : CodeWord) (next : ℕ) → WordAt v next ≡ t → (v ≡ w → ⊥) → None ≡ after_token w t
+  unfolding after_token
+  after_no v next e h =
+      sym (ap (after_token w) (sym e)
+      ∙ rw (ne_eqb (code_word_number v) (code_word_number w) (λ k. h (same_word v w k))))
+
+pub after_other : (t : Token) (w : CodeWord) → ((v : CodeWord) (next : ℕ) → t ≡ WordAt v next → ⊥)
+    → None ≡ after_token w t
 unfolding after_token
-after_other AtEnd n h = refl
-after_other NoPiece n h = refl
-after_other (WordAt v next) n h = absurd (h _ _ refl)
-after_other (OperatorAt o next) n h = refl
-after_other (ItemAt v m next) n h = refl
-after_other (NumberAt b m next) n h = refl
+after_other AtEnd w h = refl
+after_other NoPiece w h = refl
+after_other (WordAt v next) w h = absurd (h _ _ refl)
+after_other (OperatorAt o next) w h = refl
+after_other (ItemAt v m next) w h = refl
+after_other (NumberAt b m next) w h = refl
 
 -- the code's option is the grammar's
 AfterIs : Option ℕ → CodeOption ℕ → Type 0
 AfterIs none r = r ≡ None
 AfterIs (some m) r = r ≡ Some m
 
-constant_after : (n : ℕ) (k : Constant) (next : ℕ) → after_token n (constant_token k next) ≡ None
+constant_after : (w : CodeWord) (k : Constant) (next : ℕ) → after_token w (constant_token k next) ≡ None
 unfolding after_token constant_token
-constant_after n (number minus digits) next = refl
+constant_after w (number minus digits) next = refl
 
 word_after : (next : ℕ) (t : Bool) → AfterIs (cond {A = Option ℕ} t (some next) none) (cond t (Some next) None)
 unfolding AfterIs
@@ -107,23 +149,24 @@ word_after next true = refl
 word_after next false = refl
 
 -- the code's position behind a word
-next_after : (w : Word) (y : Next) → AfterIs (behind w y) (after_token (word_number w) (shown y))
+next_after : (w : Word) (y : Next) → AfterIs (behind w y) (after_token (code_word w) (shown y))
 unfolding AfterIs behind after_token shown token_of
 next_after w at_end = refl
 next_after w wrong = refl
 next_after w (found (operator o) next) = refl
 next_after w (found (item i) next) = refl
-next_after w (found (constant k) next) = constant_after (word_number w) k next
-next_after w (found (word v) next) = word_after next (eqb (word_number v) (word_number w))
+next_after w (found (constant k) next) = constant_after (code_word w) k next
+next_after w (found (word v) next) =
+    rw (word_numbered v, word_numbered w) (word_after next (eqb (word_number v) (word_number w)))
 
 module _ (w : Word) (s : List ℕ) (at : ℕ) where
-  after_is : (x : Option ℕ) → behind w (next_at s at) ≡ x → AfterIs x (after_token (word_number w) (token_at s at))
+  after_is : (x : Option ℕ) → behind w (next_at s at) ≡ x → AfterIs x (after_token (code_word w) (token_at s at))
   unfolding token_at
   after_is x e =
-      subst (λ (y : Option ℕ). AfterIs y (after_token (word_number w) (shown (next_at s at)))) e
+      subst (λ (y : Option ℕ). AfterIs y (after_token (code_word w) (shown (next_at s at)))) e
       (next_after w (next_at s at))
 
-  pub after_none : None ≡ after_token (word_number w) (token_at s at) → behind w (next_at s at) ≡ none
+  pub after_none : None ≡ after_token (code_word w) (token_at s at) → behind w (next_at s at) ≡ none
   unfolding AfterIs
   after_none e = go (behind w (next_at s at)) refl
     where
@@ -131,7 +174,7 @@ module _ (w : Word) (s : List ℕ) (at : ℕ) where
       go none f = f
       go (some m) f = let there = after_is (some m) f in cc
 
-  pub after_some : (next : ℕ) → Some next ≡ after_token (word_number w) (token_at s at)
+  pub after_some : (next : ℕ) → Some next ≡ after_token (code_word w) (token_at s at)
       → next_at s at ≡ found (word w) next
   unfolding AfterIs
   after_some next e = go (behind w (next_at s at)) refl

@@ -9,12 +9,16 @@ use Rattle.grammar.specs.Pieces.{Item, Constant, number}
 use Rattle.grammar.specs.Grammar.{Operand, of_item, of_constant, Comparison, Condition, compared, negated, both, either}
 use Rattle.grammar.specs.Grammar.{Reading}
 use Rattle.grammar.specs.Parser.{Parsed, failed, parsed, Deep}
-use Rattle.text.specs.Tokens.{operator_number, variable_number, name_number, magnitude, token_at}
+use Rattle.text.specs.Tokens.{operator_number, variable_number, name_number, magnitude, code_word_number, token_at}
+use Rattle.text.specs.declared.Word.{Word as CodeWord}
+use Rattle.text.specs.declared.Word.TheVariants as Code
 use Rattle.text.specs.declared.Token.{Token}
 use Rattle.text.specs.declared.Token.TheVariants.{AtEnd, NoPiece, WordAt, OperatorAt, ItemAt, NumberAt}
 use Rattle.text.specs.declared.Parse.{Parse}
 use Rattle.text.specs.declared.Items.{Items}
 use Rattle.text.specs.declared.Text.{Text}
+use Rattle.text.specs.declared.Operand.{Operand as CodeOperand}
+use Rattle.text.specs.declared.Operand.TheVariants as Side
 use Rattle.text.specs.declared.Compared.{Compared}
 
 -- ---- the words of a condition
@@ -91,14 +95,14 @@ pub record Gave (f : ℕ → Parsed Deep) (bound : ℕ) (s : List ℕ) (at to : 
 
 -- ---- the steps of a parser
 
--- the position behind the word with number n, where it stands
-unfoldable pub after_token : ℕ → Token → CodeOption ℕ
-after_token n AtEnd = None
-after_token n NoPiece = None
-after_token n (WordAt v next) = cond (eqb v n) (Some next) None
-after_token n (OperatorAt o next) = None
-after_token n (ItemAt v m next) = None
-after_token n (NumberAt b m next) = None
+-- the position behind a word, where that word stands
+unfoldable pub after_token : CodeWord → Token → CodeOption ℕ
+after_token w AtEnd = None
+after_token w NoPiece = None
+after_token w (WordAt v next) = cond (eqb (code_word_number v) (code_word_number w)) (Some next) None
+after_token w (OperatorAt o next) = None
+after_token w (ItemAt v m next) = None
+after_token w (NumberAt b m next) = None
 
 -- a condition with one more word in its program, and what that word is
 unfoldable pub with_word : Parse → ℕ → Parse
@@ -107,17 +111,21 @@ with_word e depth = record { next = e.next; depth = max depth e.depth; end = e.e
 unfoldable pub word_written : Parse → ℕ → List ℕ → List ℕ
 word_written e word words = written e.end (word ∷ []) words
 
--- a condition in parentheses: behind it the closing one, word 6, must stand
+-- a condition in parentheses: behind it the closing one must stand
 unfoldable pub closed_by : Parse → CodeOption ℕ → CodeOption Parse
 closed_by c None = None
 closed_by c (Some n) = Some (record { next = n; depth = c.depth + 1; end = c.end })
 
 unfoldable pub closing : List ℕ → Parse → CodeOption Parse
-closing s c = closed_by c (after_token 6 (token_at s c.next))
+closing s c = closed_by c (after_token Code.Close (token_at s c.next))
 
--- the words of a comparison that the code found
+-- the words of a right side and of a comparison that the code found
+unfoldable pub right_words : CodeOperand → List ℕ
+right_words (Side.Item v m) = v ∷ m ∷ []
+right_words (Side.Constant minus m) = sign_word minus ∷ m ∷ []
+
 unfoldable pub compared_words : Compared → List ℕ
-compared_words x = 0 ∷ x.letter ∷ x.name ∷ x.operator ∷ x.letter2 ∷ x.name2 ∷ []
+compared_words x = 0 ∷ x.letter ∷ x.name ∷ x.operator ∷ right_words x.right
 
 -- a comparison from position at on, and what the code found
 pub record ComparedParsed (s : List ℕ) (at : ℕ) (r : CodeOption Compared) (c : Deep) (next : ℕ) : Type 0 where

@@ -6,7 +6,7 @@ ghost use Rattle.std.specs.List.{prefix_len};
 ghost use Rattle.grammar.specs.Pieces.{between, is_letter_or_digit};
 ghost use Rattle.grammar.specs.Parser.{run, begins};
 ghost use Rattle.text.specs.Programs.{after_token, written, with_word, word_written, sign_word};
-ghost use Rattle.text.specs.Programs.{ComparedShows, compared_words, closing, Gave, Shows, ItemsShow};
+ghost use Rattle.text.specs.Programs.{ComparedShows, compared_words, right_words, closing, Gave, Shows, ItemsShow};
 ghost use Rattle.text.specs.Programs.{is_at_end, text_if, TextShows};
 ghost use Rattle.grammar.specs.Parser.{comparison_at, or_at, and_at, not_at, primary_at, condition_at, items_at, parse};
 ghost use Rattle.text.specs.Tokens.{name_number, magnitude, token_at, word_token, item_token, number_token, fixed_token};
@@ -17,6 +17,28 @@ pub const MAX_TEXT: usize = 1024;
 // The value of a constant whose digits say this or more: in no kind's range.
 const VALUE_BOUND: u64 = 1 << 32;
 
+// The words and marks of a text.
+#[derive(Clone, Copy, PartialEq, Eq)]
+pub enum Word {
+    Retrieve,
+    Where,
+    Not,
+    And,
+    Or,
+    Open,
+    Close,
+    Comma,
+}
+
+// The words of a program that are no part of a comparison, and the first one of a comparison.
+const COMPARISON: u64 = 0;
+
+const NOT: u64 = 1;
+
+const AND: u64 = 2;
+
+const OR: u64 = 3;
+
 // What stands at a position of a text, behind spaces: a piece, and the position behind it.
 #[derive(Clone, Copy)]
 pub enum Token {
@@ -24,8 +46,7 @@ pub enum Token {
     AtEnd,
     // No piece.
     NoPiece,
-    // A word or mark: 0 `retrieve`, 1 `where`, 2 `not`, 3 `and`, 4 `or`, 5 and 6 the parentheses, 7 the comma.
-    WordAt(u8, usize),
+    WordAt(Word, usize),
     // An operator's number.
     OperatorAt(u8, usize),
     // The letter of the variable, 0 for the blank one, and the number of the name.
@@ -80,11 +101,11 @@ fn stands(s: &[u8], at: usize, text: &[u8]) -> bool
     s[at..].starts_with(text)
 }
 
-// The word with a number, spelled so, where it stands at a position.
-fn word(s: &[u8], at: usize, n: u8, text: &[u8]) -> Token
+// A word, spelled so, where it stands at a position.
+fn spelled_word(s: &[u8], at: usize, w: Word, text: &[u8]) -> Token
     requires at_in_bounds { at ≤ length s.now }
     requires text_len_bound { length text.now ≤ 8 }
-    ensures { result ≡ word_token n text.now (drop at s.now) at }
+    ensures { result ≡ word_token w text.now (drop at s.now) at }
 {
     if !stands(s, at, text) {
         return Token::NoPiece;
@@ -93,7 +114,7 @@ fn word(s: &[u8], at: usize, n: u8, text: &[u8]) -> Token
     if goes_on(s, end) {
         return Token::NoPiece;
     }
-    Token::WordAt(n, end)
+    Token::WordAt(w, end)
 }
 
 // The number of a letter of a name, and of a digit.
@@ -191,14 +212,14 @@ fn fixed(s: &[u8], at: usize) -> Token
     ensures { result ≡ fixed_token (drop at s.now) at }
 {
     match s[at] {
-        b'r' => word(s, at, 0, b"retrieve"),
-        b'w' => word(s, at, 1, b"where"),
-        b'n' => word(s, at, 2, b"not"),
-        b'a' => word(s, at, 3, b"and"),
-        b'o' => word(s, at, 4, b"or"),
-        b'(' => Token::WordAt(5, at + 1),
-        b')' => Token::WordAt(6, at + 1),
-        b',' => Token::WordAt(7, at + 1),
+        b'r' => spelled_word(s, at, Word::Retrieve, b"retrieve"),
+        b'w' => spelled_word(s, at, Word::Where, b"where"),
+        b'n' => spelled_word(s, at, Word::Not, b"not"),
+        b'a' => spelled_word(s, at, Word::And, b"and"),
+        b'o' => spelled_word(s, at, Word::Or, b"or"),
+        b'(' => Token::WordAt(Word::Open, at + 1),
+        b')' => Token::WordAt(Word::Close, at + 1),
+        b',' => Token::WordAt(Word::Comma, at + 1),
         b'<' => less(s, at),
         b'>' => with_equal(s, at, 4),
         b'=' => Token::OperatorAt(0, at + 1),
@@ -235,27 +256,35 @@ pub struct Parse {
     pub end: usize,
 }
 
-// A comparison: two items by letter and number, or an item and a constant (letter 1, or 2 behind a minus, and the
-// magnitude).
+// The right side of a comparison.
+#[derive(Clone, Copy)]
+pub enum Operand {
+    // The letter of the variable, 0 for the blank one, and the number of the name.
+    Item(u8, u64),
+    // Whether there is a minus, and the magnitude.
+    Constant(bool, u64),
+}
+
+// A comparison: its left item by letter and number.
 #[derive(Clone, Copy)]
 pub struct Compared {
     pub letter: u8,
     pub name: u64,
     pub operator: u8,
-    pub letter2: u8,
-    pub name2: u64,
+    pub right: Operand,
+    // The position of the text behind it.
     pub next: usize,
 }
 
 // The position behind a word, where it stands at a position.
-fn after(s: &[u8], at: usize, n: u8) -> Option<usize>
+fn after(s: &[u8], at: usize, w: Word) -> Option<usize>
     requires { at ≤ length s.now }
-    ensures { result ≡ after_token n (token_at s.now at) }
+    ensures { result ≡ after_token w (token_at s.now at) }
 {
     let Token::WordAt(v, next) = token_at(s, at) else {
         return None;
     };
-    if v == n { Some(next) } else { None }
+    if v == w { Some(next) } else { None }
 }
 
 // Writes one word of a program. The place behind it.
@@ -282,10 +311,20 @@ fn with_word(e: Parse, depth: usize, word: u64, out: &mut [u64]) -> Parse
 }
 
 // The first word of a constant.
-fn sign_word(minus: bool) -> u8
+fn sign_word(minus: bool) -> u64
     ensures { result ≡ sign_word minus }
 {
     if minus { 2 } else { 1 }
+}
+
+// The two words of a right side.
+fn right_words(x: Operand) -> (u64, u64)
+    ensures { result.0 ∷ result.1 ∷ [] ≡ right_words x }
+{
+    match x {
+        Operand::Item(letter, name) => (u64::from(letter), name),
+        Operand::Constant(minus, magnitude) => (sign_word(minus), magnitude),
+    }
 }
 
 // The comparison that stands at a position.
@@ -299,17 +338,16 @@ fn comparison_at(s: &[u8], at: usize) -> Option<Compared>
     let Token::OperatorAt(operator, late) = token_at(s, mid) else {
         return None;
     };
-    let (letter2, name2, next) = match token_at(s, late) {
-        Token::ItemAt(letter2, name2, next) => (letter2, name2, next),
-        Token::NumberAt(minus, name2, next) => (sign_word(minus), name2, next),
+    let (right, next) = match token_at(s, late) {
+        Token::ItemAt(letter, name, next) => (Operand::Item(letter, name), next),
+        Token::NumberAt(minus, magnitude, next) => (Operand::Constant(minus, magnitude), next),
         _ => return None,
     };
     Some(Compared {
         letter,
         name,
         operator,
-        letter2,
-        name2,
+        right,
         next,
     })
 }
@@ -320,12 +358,13 @@ fn put_comparison(x: Compared, out: &mut [u64], to: usize) -> usize
     ensures value { result ≡ to + 6 }
     ensures out_after { out.new ≡ written to (compared_words x) out.old }
 {
-    let mut at = put(out, to, 0);
+    let (first, second) = right_words(x.right);
+    let mut at = put(out, to, COMPARISON);
     at = put(out, at, u64::from(x.letter));
     at = put(out, at, x.name);
     at = put(out, at, u64::from(x.operator));
-    at = put(out, at, u64::from(x.letter2));
-    put(out, at, x.name2)
+    at = put(out, at, first);
+    put(out, at, second)
 }
 
 // The condition in parentheses, behind which a closing one must stand.
@@ -333,7 +372,7 @@ fn closed(s: &[u8], c: Parse) -> Option<Parse>
     requires { (c.next ≤ length s.now) × (c.depth < length s.now) }
     ensures { result ≡ closing s.now c }
 {
-    let next = after(s, c.next, 6)?;
+    let next = after(s, c.next, Word::Close)?;
     Some(Parse {
         next,
         depth: c.depth + 1,
@@ -365,9 +404,9 @@ fn or_at(s: &[u8], at: usize, out: &mut [u64], to: usize) -> Option<Parse>
         to out.old out.new result }
 {
     let mut c = and_at(s, at, out, to)?;
-    while let Some(next) = after(s, c.next, 4) {
+    while let Some(next) = after(s, c.next, Word::Or) {
         let e = and_at(s, next, out, c.end)?;
-        c = with_word(e, c.depth, 3, out);
+        c = with_word(e, c.depth, OR, out);
     }
     Some(c)
 }
@@ -380,9 +419,9 @@ fn and_at(s: &[u8], at: usize, out: &mut [u64], to: usize) -> Option<Parse>
         to out.old out.new result }
 {
     let mut c = not_at(s, at, out, to)?;
-    while let Some(next) = after(s, c.next, 3) {
+    while let Some(next) = after(s, c.next, Word::And) {
         let e = not_at(s, next, out, c.end)?;
-        c = with_word(e, c.depth, 2, out);
+        c = with_word(e, c.depth, AND, out);
     }
     Some(c)
 }
@@ -394,11 +433,11 @@ fn not_at(s: &[u8], at: usize, out: &mut [u64], to: usize) -> Option<Parse>
     ensures { Gave (λ n. not_at n s.now at) (4 * (length s.now - at) + 2) s.now at
         to out.old out.new result }
 {
-    let Some(next) = after(s, at, 2) else {
+    let Some(next) = after(s, at, Word::Not) else {
         return primary_at(s, at, out, to);
     };
     let c = not_at(s, next, out, to)?;
-    Some(with_word(c, 0, 1, out))
+    Some(with_word(c, 0, NOT, out))
 }
 
 // A comparison, or a condition in parentheses.
@@ -408,7 +447,7 @@ fn primary_at(s: &[u8], at: usize, out: &mut [u64], to: usize) -> Option<Parse>
     ensures { Gave (λ n. primary_at n s.now at) (4 * (length s.now - at) + 1) s.now
         at to out.old out.new result }
 {
-    let Some(next) = after(s, at, 5) else {
+    let Some(next) = after(s, at, Word::Open) else {
         return comparison(s, at, out, to);
     };
     let c = or_at(s, next, out, to)?;
@@ -448,7 +487,7 @@ fn items_at(s: &[u8], at: usize, out: &mut [u64]) -> Option<Items>
         let place: usize = put(out, 2 * n, u64::from(letter));
         put(out, place, name);
         n += 1;
-        let Some(next) = after(s, mid, 7) else {
+        let Some(next) = after(s, mid, Word::Comma) else {
             return Some(Items {
                 count: n,
                 next: mid,
@@ -490,12 +529,12 @@ pub fn read_text(s: &[u8], out: &mut [u64]) -> Option<Text>
     requires { 2 * length s.now ≤ length out.old }
     ensures { TextShows out.old out.new result (parse s.now) }
 {
-    let first = after(s, 0, 0)?;
-    let second = after(s, first, 5)?;
+    let first = after(s, 0, Word::Retrieve)?;
+    let second = after(s, first, Word::Open)?;
     let list = items_at(s, second, out)?;
-    let fourth = after(s, list.next, 6)?;
+    let fourth = after(s, list.next, Word::Close)?;
     let from: usize = 2 * list.count;
-    let Some(wanted) = after(s, fourth, 1) else {
+    let Some(wanted) = after(s, fourth, Word::Where) else {
         let plain = Text {
             items: list.count,
             depth: None,

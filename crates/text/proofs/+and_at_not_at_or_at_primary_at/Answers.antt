@@ -4,7 +4,7 @@
 -- first part was written; their measure is what is left of the text.
 -- Assumes nothing.
 use native.Mathlib.Omega.{arith}
-use Rattle.grammar.specs.Parser.{word_number}
+use Rattle.text.specs.Tokens.{code_word}
 use Rattle.text.proofs.Chains.{round_start, round_none, round_ends, round_next_inside, round_room}
 use Rattle.text.proofs.Chains.{round_falls, part_fails, part_room, round_next, round_less}
 use Rattle.text.proofs.Parsers.{inner_room, inner_end, inner_closed, not_plain, not_within, not_fails, not_behind}
@@ -19,11 +19,11 @@ pub or_at-loop-next-init : goal.or_at-loop-next-init
 or_at-loop-next-init t c = λ before room g. round_start _ _ _ _ _ _ _ _ (or_chain _) _ _ before room _ _ g
 
 pub or_at-returns : goal.or_at-returns
-unfolding word_number
+unfolding code_word
 or_at-returns t c = round_ends _ _ _ _ _ _ _ _ (or_chain _) _ _ _ c.requires.1 _ _ (c.loop-next.invariant _ c.requires.1 c.in_ok-c.ensures) c.in_default.ensures
 
 pub or_at-and_at-requires-in-Some : goal.or_at-and_at-requires-in-Some
-unfolding word_number
+unfolding code_word
 or_at-and_at-requires-in-Some t c =
     let w = round_falls _ _ _ _ _ _ _ _ (or_chain _) _ _ _ c.requires.1 _ _ (c.loop-next.invariant _ c.requires.1 c.in_ok-c.ensures) _ c.in-Some.ensures in (
       omega (arith, c.decreases, w),
@@ -34,20 +34,20 @@ or_at-and_at-requires-in-Some t c =
     )
 
 pub or_at-returns-in_err-e : goal.or_at-returns-in_err-e
-unfolding word_number
+unfolding code_word
 or_at-returns-in_err-e t c = rw c.from_residual-in_err-e.ensures (part_fails _ _ _ _ _ _ _ _ (or_chain _) _ _ _ c.requires.1 _ _ (c.loop-next.invariant _ c.requires.1 c.in_ok-c.ensures) _ c.in-Some.ensures _ c.in_err-e.ensures)
 
 pub or_at-with_word-c-requires : goal.or_at-with_word-c-requires
-unfolding word_number
+unfolding code_word
 or_at-with_word-c-requires t c = part_room _ _ _ _ _ _ _ _ (or_chain _) _ _ _ c.requires.1 _ _ (c.loop-next.invariant _ c.requires.1 c.in_ok-c.ensures) _ c.in-Some.ensures _ _ c.in_ok-e.ensures
 
 pub or_at-loop-next-smaller : goal.or_at-loop-next-smaller
-unfolding word_number
+unfolding code_word
 or_at-loop-next-smaller t c =
     round_less _ _ _ _ _ _ _ _ (or_chain _) _ _ _ c.requires.1 _ _ (c.loop-next.invariant _ c.requires.1 c.in_ok-c.ensures) _ c.in-Some.ensures _ _ c.in_ok-e.ensures _ _ c.with_word-c.ensures.value c.with_word-c.ensures.out_after
 
 pub or_at-loop-next-preserved : goal.or_at-loop-next-preserved
-unfolding word_number
+unfolding code_word
 or_at-loop-next-preserved t c =
     λ before room g. round_next _ _ _ _ _ _ _ _ (or_chain _) _ _ before room _ _ (c.loop-next.invariant before room g)
     _ c.in-Some.ensures _ _ c.in_ok-e.ensures _ _ c.with_word-c.ensures.value c.with_word-c.ensures.out_after
@@ -60,11 +60,11 @@ pub and_at-loop-next-init : goal.and_at-loop-next-init
 and_at-loop-next-init t c = λ before room g. round_start _ _ _ _ _ _ _ _ (and_chain _) _ _ before room _ _ g
 
 pub and_at-returns : goal.and_at-returns
-unfolding word_number
+unfolding code_word
 and_at-returns t c = round_ends _ _ _ _ _ _ _ _ (and_chain _) _ _ _ c.requires.1 _ _ (c.loop-next.invariant _ c.requires.1 c.in_ok-c.ensures) c.in_default.ensures
 
 pub and_at-not_at-requires-in-Some : goal.and_at-not_at-requires-in-Some
-unfolding word_number
+unfolding code_word
 and_at-not_at-requires-in-Some t c =
     let w = round_falls _ _ _ _ _ _ _ _ (and_chain _) _ _ _ c.requires.1 _ _ (c.loop-next.invariant _ c.requires.1 c.in_ok-c.ensures) _ c.in-Some.ensures in (
       omega (arith, c.decreases, w),
@@ -75,20 +75,20 @@ and_at-not_at-requires-in-Some t c =
     )
 
 pub and_at-returns-in_err-e : goal.and_at-returns-in_err-e
-unfolding word_number
+unfolding code_word
 and_at-returns-in_err-e t c = rw c.from_residual-in_err-e.ensures (part_fails _ _ _ _ _ _ _ _ (and_chain _) _ _ _ c.requires.1 _ _ (c.loop-next.invariant _ c.requires.1 c.in_ok-c.ensures) _ c.in-Some.ensures _ c.in_err-e.ensures)
 
 pub and_at-with_word-c-requires : goal.and_at-with_word-c-requires
-unfolding word_number
+unfolding code_word
 and_at-with_word-c-requires t c = part_room _ _ _ _ _ _ _ _ (and_chain _) _ _ _ c.requires.1 _ _ (c.loop-next.invariant _ c.requires.1 c.in_ok-c.ensures) _ c.in-Some.ensures _ _ c.in_ok-e.ensures
 
 pub and_at-loop-next-smaller : goal.and_at-loop-next-smaller
-unfolding word_number
+unfolding code_word
 and_at-loop-next-smaller t c =
     round_less _ _ _ _ _ _ _ _ (and_chain _) _ _ _ c.requires.1 _ _ (c.loop-next.invariant _ c.requires.1 c.in_ok-c.ensures) _ c.in-Some.ensures _ _ c.in_ok-e.ensures _ _ c.with_word-c.ensures.value c.with_word-c.ensures.out_after
 
 pub and_at-loop-next-preserved : goal.and_at-loop-next-preserved
-unfolding word_number
+unfolding code_word
 and_at-loop-next-preserved t c =
     λ before room g. round_next _ _ _ _ _ _ _ _ (and_chain _) _ _ before room _ _ (c.loop-next.invariant before room g)
     _ c.in-Some.ensures _ _ c.in_ok-e.ensures _ _ c.with_word-c.ensures.value c.with_word-c.ensures.out_after

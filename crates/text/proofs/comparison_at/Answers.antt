@@ -23,8 +23,7 @@ returns-in-ItemAt-token_at c =
 
 pub returns-in-NumberAt : goal.returns-in-NumberAt
 returns-in-NumberAt c =
-    third_constant _ _ _ _ _ c.in-ItemAt.ensures _ _ c.in-OperatorAt.ensures _ _ _ _ c.in-NumberAt.ensures
-    c.sign_word.ensures
+    third_constant _ _ _ _ _ c.in-ItemAt.ensures _ _ c.in-OperatorAt.ensures _ _ _ c.in-NumberAt.ensures
 
 pub returns-in_default-token_at-2 : goal.returns-in_default-token_at-2
 returns-in_default-token_at-2 c =
