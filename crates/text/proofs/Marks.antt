@@ -16,9 +16,11 @@ use Rattle.sets.proofs.Numbers.{eq_or_ne}
 use Rattle.grammar.specs.Pieces.{between, is_capital, is_small, is_digit, is_letter_or_digit, last_of, Word, Retrieve, Where}
 use Rattle.grammar.specs.Pieces.{Not, And, Or, Piece, word, word_bytes, operator_bytes, bytes_of}
 use Rattle.grammar.specs.Pieces.{is_piece, apart, operator, Less, Greater}
-use Rattle.grammar.specs.Parser.{run, begins, fixed, first_of, stands, found, wrong, checked, word_number}
-use Rattle.text.specs.Tokens.{operator_number, name_number, magnitude, token_of, shown, word_token, item_token}
+use Rattle.grammar.specs.Parser.{run, begins, fixed, first_of, stands, found, wrong, checked}
+use Rattle.text.specs.Tokens.{code_word, operator_number, name_number, magnitude, token_of, shown, word_token, item_token}
 use Rattle.text.specs.Tokens.{number_token, fixed_token}
+use Rattle.text.specs.declared.Word.{Word as CodeWord}
+use Rattle.text.specs.declared.Word.TheVariants as Code
 use Rattle.text.specs.declared.Token.{Token}
 use Rattle.text.specs.declared.Token.TheVariants.{NoPiece, WordAt, OperatorAt, ItemAt, NumberAt}
 use Rattle.text.proofs.Scanning.{drop_inside}
@@ -34,24 +36,24 @@ module _ (w : Word) (l : List ℕ) (h : is_letter_or_digit (last_of (word_bytes 
       there = omega arith
 
   word_shown : (a : ℕ) (t : Bool) → shown (cond t (found (word w) (a + length (word_bytes w))) wrong)
-      ≡ cond t (WordAt (word_number w) (a + length (word_bytes w))) NoPiece
+      ≡ cond t (WordAt (code_word w) (a + length (word_bytes w))) NoPiece
   unfolding shown token_of
   word_shown a true = refl
   word_shown a false = refl
 
   word_case : (a : ℕ) (t : Bool) → begins (word_bytes w) l ≡ t
       → shown (checked a l (elim t [ true ↦ some (word w) | false ↦ none ]))
-      ≡ word_token (word_number w) (word_bytes w) l a
+      ≡ word_token (code_word w) (word_bytes w) l a
   unfolding checked stands is_piece bytes_of word_token shown
   word_case a true e =
       word_shown a (begins (word_bytes w) l && apart (word w) (drop (length (word_bytes w)) l))
-      ∙ ap (λ (t : Bool). cond (begins (word_bytes w) l && t) (WordAt (word_number w) (a + length (word_bytes w))) NoPiece)
+      ∙ ap (λ (t : Bool). cond (begins (word_bytes w) l && t) (WordAt (code_word w) (a + length (word_bytes w))) NoPiece)
       word_apart
   word_case a false e = rw e
 
   word_token_fact : (a : ℕ)
       → shown (checked a l (elim (begins (word_bytes w) l) [ true ↦ some (word w) | false ↦ none ]))
-      ≡ word_token (word_number w) (word_bytes w) l a
+      ≡ word_token (code_word w) (word_bytes w) l a
   word_token_fact a = word_case a (begins (word_bytes w) l) refl
 
 -- ---- the words and marks
@@ -61,38 +63,38 @@ front : (s : List ℕ) (at b : ℕ) → at < length s → get_or s at 0 ≡ b �
 front s at b h e = drop_inside s at h ∙ ap (λ (c : ℕ). c ∷ drop (at + 1) s) e
 
 module _ (l : List ℕ) (at : ℕ) where
-  retrieve_front : word_token 0 (114 ∷ 101 ∷ 116 ∷ 114 ∷ 105 ∷ 101 ∷ 118 ∷ 101 ∷ []) (114 ∷ l) at ≡ fixed_token (114 ∷ l) at
-  unfolding fixed_token first_of fixed begins bytes_of word_bytes operator_bytes word_number
+  retrieve_front : word_token Code.Retrieve (114 ∷ 101 ∷ 116 ∷ 114 ∷ 105 ∷ 101 ∷ 118 ∷ 101 ∷ []) (114 ∷ l) at ≡ fixed_token (114 ∷ l) at
+  unfolding fixed_token first_of fixed begins bytes_of word_bytes operator_bytes code_word
   retrieve_front = sym (word_token_fact Retrieve (114 ∷ l) (unfold is_letter_or_digit last_of is_capital is_small is_digit in refl) at)
 
-  where_front : word_token 1 (119 ∷ 104 ∷ 101 ∷ 114 ∷ 101 ∷ []) (119 ∷ l) at ≡ fixed_token (119 ∷ l) at
-  unfolding fixed_token first_of fixed begins bytes_of word_bytes operator_bytes word_number
+  where_front : word_token Code.Where (119 ∷ 104 ∷ 101 ∷ 114 ∷ 101 ∷ []) (119 ∷ l) at ≡ fixed_token (119 ∷ l) at
+  unfolding fixed_token first_of fixed begins bytes_of word_bytes operator_bytes code_word
   where_front = sym (word_token_fact Where (119 ∷ l) (unfold is_letter_or_digit last_of is_capital is_small is_digit in refl) at)
 
-  not_front : word_token 2 (110 ∷ 111 ∷ 116 ∷ []) (110 ∷ l) at ≡ fixed_token (110 ∷ l) at
-  unfolding fixed_token first_of fixed begins bytes_of word_bytes operator_bytes word_number
+  not_front : word_token Code.Not (110 ∷ 111 ∷ 116 ∷ []) (110 ∷ l) at ≡ fixed_token (110 ∷ l) at
+  unfolding fixed_token first_of fixed begins bytes_of word_bytes operator_bytes code_word
   not_front = sym (word_token_fact Not (110 ∷ l) (unfold is_letter_or_digit last_of is_capital is_small is_digit in refl) at)
 
-  and_front : word_token 3 (97 ∷ 110 ∷ 100 ∷ []) (97 ∷ l) at ≡ fixed_token (97 ∷ l) at
-  unfolding fixed_token first_of fixed begins bytes_of word_bytes operator_bytes word_number
+  and_front : word_token Code.And (97 ∷ 110 ∷ 100 ∷ []) (97 ∷ l) at ≡ fixed_token (97 ∷ l) at
+  unfolding fixed_token first_of fixed begins bytes_of word_bytes operator_bytes code_word
   and_front = sym (word_token_fact And (97 ∷ l) (unfold is_letter_or_digit last_of is_capital is_small is_digit in refl) at)
 
-  or_front : word_token 4 (111 ∷ 114 ∷ []) (111 ∷ l) at ≡ fixed_token (111 ∷ l) at
-  unfolding fixed_token first_of fixed begins bytes_of word_bytes operator_bytes word_number
+  or_front : word_token Code.Or (111 ∷ 114 ∷ []) (111 ∷ l) at ≡ fixed_token (111 ∷ l) at
+  unfolding fixed_token first_of fixed begins bytes_of word_bytes operator_bytes code_word
   or_front = sym (word_token_fact Or (111 ∷ l) (unfold is_letter_or_digit last_of is_capital is_small is_digit in refl) at)
 
-  opening_front : WordAt 5 (at + 1) ≡ fixed_token (40 ∷ l) at
-  unfolding fixed_token first_of fixed begins bytes_of word_bytes operator_bytes word_number checked stands is_piece apart shown
+  opening_front : WordAt Code.Open (at + 1) ≡ fixed_token (40 ∷ l) at
+  unfolding fixed_token first_of fixed begins bytes_of word_bytes operator_bytes code_word checked stands is_piece apart shown
       token_of is_letter_or_digit last_of is_capital is_small is_digit
   opening_front = refl
 
-  closing_front : WordAt 6 (at + 1) ≡ fixed_token (41 ∷ l) at
-  unfolding fixed_token first_of fixed begins bytes_of word_bytes operator_bytes word_number checked stands is_piece apart shown
+  closing_front : WordAt Code.Close (at + 1) ≡ fixed_token (41 ∷ l) at
+  unfolding fixed_token first_of fixed begins bytes_of word_bytes operator_bytes code_word checked stands is_piece apart shown
       token_of is_letter_or_digit last_of is_capital is_small is_digit
   closing_front = refl
 
-  comma_front : WordAt 7 (at + 1) ≡ fixed_token (44 ∷ l) at
-  unfolding fixed_token first_of fixed begins bytes_of word_bytes operator_bytes word_number checked stands is_piece apart shown
+  comma_front : WordAt Code.Comma (at + 1) ≡ fixed_token (44 ∷ l) at
+  unfolding fixed_token first_of fixed begins bytes_of word_bytes operator_bytes code_word checked stands is_piece apart shown
       token_of is_letter_or_digit last_of is_capital is_small is_digit
   comma_front = refl
 
@@ -208,40 +210,40 @@ module _ (s : List ℕ) (at : ℕ) (h : at < length s) where
   at_front : (b : ℕ) (P : List ℕ → Type 0) → get_or s at 0 ≡ b → P (b ∷ drop (at + 1) s) → P (drop at s)
   at_front b P e p = subst P (sym (front s at b h e)) p
 
-  at_word : (n b : ℕ) (text : List ℕ) (r : Token)
-      → ((l : List ℕ) → word_token n text (b ∷ l) at ≡ fixed_token (b ∷ l) at) → get_or s at 0 ≡ b
-      → r ≡ word_token n text (drop at s) at → r ≡ fixed_token (drop at s) at
-  at_word n b text r k e f =
-      f ∙ at_front b (λ l. word_token n text l at ≡ fixed_token l at) e (k (drop (at + 1) s))
+  at_word : (w : CodeWord) (b : ℕ) (text : List ℕ) (r : Token)
+      → ((l : List ℕ) → word_token w text (b ∷ l) at ≡ fixed_token (b ∷ l) at) → get_or s at 0 ≡ b
+      → r ≡ word_token w text (drop at s) at → r ≡ fixed_token (drop at s) at
+  at_word w b text r k e f =
+      f ∙ at_front b (λ l. word_token w text l at ≡ fixed_token l at) e (k (drop (at + 1) s))
 
   pub fixed_retrieve : (r : Token) → get_or s at 0 ≡ 114
-      → r ≡ word_token 0 (114 ∷ 101 ∷ 116 ∷ 114 ∷ 105 ∷ 101 ∷ 118 ∷ 101 ∷ []) (drop at s) at → r ≡ fixed_token (drop at s) at
-  fixed_retrieve r e f = at_word 0 114 (114 ∷ 101 ∷ 116 ∷ 114 ∷ 105 ∷ 101 ∷ 118 ∷ 101 ∷ []) r (λ l. retrieve_front l at) e f
+      → r ≡ word_token Code.Retrieve (114 ∷ 101 ∷ 116 ∷ 114 ∷ 105 ∷ 101 ∷ 118 ∷ 101 ∷ []) (drop at s) at → r ≡ fixed_token (drop at s) at
+  fixed_retrieve r e f = at_word Code.Retrieve 114 (114 ∷ 101 ∷ 116 ∷ 114 ∷ 105 ∷ 101 ∷ 118 ∷ 101 ∷ []) r (λ l. retrieve_front l at) e f
 
   pub fixed_where : (r : Token) → get_or s at 0 ≡ 119
-      → r ≡ word_token 1 (119 ∷ 104 ∷ 101 ∷ 114 ∷ 101 ∷ []) (drop at s) at → r ≡ fixed_token (drop at s) at
-  fixed_where r e f = at_word 1 119 (119 ∷ 104 ∷ 101 ∷ 114 ∷ 101 ∷ []) r (λ l. where_front l at) e f
+      → r ≡ word_token Code.Where (119 ∷ 104 ∷ 101 ∷ 114 ∷ 101 ∷ []) (drop at s) at → r ≡ fixed_token (drop at s) at
+  fixed_where r e f = at_word Code.Where 119 (119 ∷ 104 ∷ 101 ∷ 114 ∷ 101 ∷ []) r (λ l. where_front l at) e f
 
   pub fixed_not : (r : Token) → get_or s at 0 ≡ 110
-      → r ≡ word_token 2 (110 ∷ 111 ∷ 116 ∷ []) (drop at s) at → r ≡ fixed_token (drop at s) at
-  fixed_not r e f = at_word 2 110 (110 ∷ 111 ∷ 116 ∷ []) r (λ l. not_front l at) e f
+      → r ≡ word_token Code.Not (110 ∷ 111 ∷ 116 ∷ []) (drop at s) at → r ≡ fixed_token (drop at s) at
+  fixed_not r e f = at_word Code.Not 110 (110 ∷ 111 ∷ 116 ∷ []) r (λ l. not_front l at) e f
 
   pub fixed_and : (r : Token) → get_or s at 0 ≡ 97
-      → r ≡ word_token 3 (97 ∷ 110 ∷ 100 ∷ []) (drop at s) at → r ≡ fixed_token (drop at s) at
-  fixed_and r e f = at_word 3 97 (97 ∷ 110 ∷ 100 ∷ []) r (λ l. and_front l at) e f
+      → r ≡ word_token Code.And (97 ∷ 110 ∷ 100 ∷ []) (drop at s) at → r ≡ fixed_token (drop at s) at
+  fixed_and r e f = at_word Code.And 97 (97 ∷ 110 ∷ 100 ∷ []) r (λ l. and_front l at) e f
 
   pub fixed_or : (r : Token) → get_or s at 0 ≡ 111
-      → r ≡ word_token 4 (111 ∷ 114 ∷ []) (drop at s) at → r ≡ fixed_token (drop at s) at
-  fixed_or r e f = at_word 4 111 (111 ∷ 114 ∷ []) r (λ l. or_front l at) e f
+      → r ≡ word_token Code.Or (111 ∷ 114 ∷ []) (drop at s) at → r ≡ fixed_token (drop at s) at
+  fixed_or r e f = at_word Code.Or 111 (111 ∷ 114 ∷ []) r (λ l. or_front l at) e f
 
-  pub fixed_opening : get_or s at 0 ≡ 40 → WordAt 5 (at + 1) ≡ fixed_token (drop at s) at
-  fixed_opening e = at_front 40 (λ l. WordAt 5 (at + 1) ≡ fixed_token l at) e (opening_front _ at)
+  pub fixed_opening : get_or s at 0 ≡ 40 → WordAt Code.Open (at + 1) ≡ fixed_token (drop at s) at
+  fixed_opening e = at_front 40 (λ l. WordAt Code.Open (at + 1) ≡ fixed_token l at) e (opening_front _ at)
 
-  pub fixed_closing : get_or s at 0 ≡ 41 → WordAt 6 (at + 1) ≡ fixed_token (drop at s) at
-  fixed_closing e = at_front 41 (λ l. WordAt 6 (at + 1) ≡ fixed_token l at) e (closing_front _ at)
+  pub fixed_closing : get_or s at 0 ≡ 41 → WordAt Code.Close (at + 1) ≡ fixed_token (drop at s) at
+  fixed_closing e = at_front 41 (λ l. WordAt Code.Close (at + 1) ≡ fixed_token l at) e (closing_front _ at)
 
-  pub fixed_comma : get_or s at 0 ≡ 44 → WordAt 7 (at + 1) ≡ fixed_token (drop at s) at
-  fixed_comma e = at_front 44 (λ l. WordAt 7 (at + 1) ≡ fixed_token l at) e (comma_front _ at)
+  pub fixed_comma : get_or s at 0 ≡ 44 → WordAt Code.Comma (at + 1) ≡ fixed_token (drop at s) at
+  fixed_comma e = at_front 44 (λ l. WordAt Code.Comma (at + 1) ≡ fixed_token l at) e (comma_front _ at)
 
   pub fixed_equal : get_or s at 0 ≡ 61 → OperatorAt 0 (at + 1) ≡ fixed_token (drop at s) at
   fixed_equal e = at_front 61 (λ l. OperatorAt 0 (at + 1) ≡ fixed_token l at) e (equal_front _ at)

@@ -18,22 +18,23 @@ use Rattle.grammar.specs.Pieces.{variable_bytes, constant_bytes, is_name, are_di
 use Rattle.grammar.specs.Parser.{run, begins, item_from, constant_from, stands, found, wrong, checked}
 use Rattle.text.specs.Tokens.{variable_number, name_number, magnitude, constant_token, token_of, shown, word_token}
 use Rattle.text.specs.Tokens.{item_token, number_token}
+use Rattle.text.specs.declared.Word.{Word as CodeWord}
 use Rattle.text.specs.declared.Token.TheVariants.{NoPiece, WordAt, ItemAt, NumberAt}
 use Rattle.grammar.proofs.Bytes.{run_yes, run_no, capital_counts, digit_counts, every_last, begins_append}
 
 -- ---- words
 
-module _ (s : List ℕ) (at n : ℕ) (text : List ℕ) (t : Bool) (e : t ≡ begins text (drop at s)) where
-  pub word_not : not t ≡ true → NoPiece ≡ word_token n text (drop at s) at
+module _ (s : List ℕ) (at : ℕ) (w : CodeWord) (text : List ℕ) (t : Bool) (e : t ≡ begins text (drop at s)) where
+  pub word_not : not t ≡ true → NoPiece ≡ word_token w text (drop at s) at
   unfolding word_token
   word_not h = rw (← e, not-true t h)
 
   module _ (h : not t ≡ false) (u : Bool) (f : u ≡ is_letter_or_digit (get_or s (at + length text) 0)) where
-    pub word_goes : u ≡ true → NoPiece ≡ word_token n text (drop at s) at
+    pub word_goes : u ≡ true → NoPiece ≡ word_token w text (drop at s) at
     unfolding word_token
     word_goes k = rw (← e, not-false t h, get_or-drop, ← f, k)
 
-    pub word_is : u ≡ false → WordAt n (at + length text) ≡ word_token n text (drop at s) at
+    pub word_is : u ≡ false → WordAt w (at + length text) ≡ word_token w text (drop at s) at
     unfolding word_token
     word_is k = rw (← e, not-false t h, get_or-drop, ← f, k)
 

@@ -5,8 +5,11 @@
 use Rattle.std.specs.Prelude.{Bool, not, ◌&&◌, cond, List, [], ◌∷◌, ℕ, ◌+◌, ◌-◌, ◌*◌, ◌^◌, min, leb, length, get_or, take}
 use Rattle.grammar.specs.Pieces.{is_capital, is_digit, is_letter_or_digit, Operator, Equal, Unequal, Less, AtMost, Greater}
 use Rattle.grammar.specs.Pieces.{AtLeast, Variable, blank, letter, Constant, number, Piece, word, operator, item}
+use Rattle.grammar.specs.Pieces.{Word, Retrieve, Where, Not, And, Or, Opening, Closing, Comma}
 use Rattle.grammar.specs.Pieces.{constant}
-use Rattle.grammar.specs.Parser.{run, begins, fixed, first_of, Next, at_end, wrong, found, checked, next_at, word_number}
+use Rattle.grammar.specs.Parser.{run, begins, fixed, first_of, Next, at_end, wrong, found, checked, next_at}
+use Rattle.text.specs.declared.Word.{Word as CodeWord}
+use Rattle.text.specs.declared.Word.TheVariants as Code
 use Rattle.text.specs.declared.Token.{Token}
 use Rattle.text.specs.declared.Token.TheVariants.{AtEnd, NoPiece, WordAt, OperatorAt, ItemAt, NumberAt}
 
@@ -45,11 +48,32 @@ magnitude digits = min (value_from 0 digits) (2 ^ 32)
 
 -- ---- tokens
 
+-- the code's value of a word, and its number, which is the grammar's `word_number`
+unfoldable pub code_word : Word → CodeWord
+code_word Retrieve = Code.Retrieve
+code_word Where = Code.Where
+code_word Not = Code.Not
+code_word And = Code.And
+code_word Or = Code.Or
+code_word Opening = Code.Open
+code_word Closing = Code.Close
+code_word Comma = Code.Comma
+
+unfoldable pub code_word_number : CodeWord → ℕ
+code_word_number Code.Retrieve = 0
+code_word_number Code.Where = 1
+code_word_number Code.Not = 2
+code_word_number Code.And = 3
+code_word_number Code.Or = 4
+code_word_number Code.Open = 5
+code_word_number Code.Close = 6
+code_word_number Code.Comma = 7
+
 unfoldable pub constant_token : Constant → ℕ → Token
 constant_token (number minus digits) next = NumberAt minus (magnitude digits) next
 
 unfoldable pub token_of : Piece → ℕ → Token
-token_of (word w) next = WordAt (word_number w) next
+token_of (word w) next = WordAt (code_word w) next
 token_of (operator o) next = OperatorAt (operator_number o) next
 token_of (item i) next = ItemAt (variable_number i.variable) (name_number i.name) next
 token_of (constant k) next = constant_token k next
@@ -65,9 +89,9 @@ token_at s at = shown (next_at s at)
 
 -- ---- its parts: where the bytes l, which stand at position at, begin with a word, a name, digits, or none of these
 
-unfoldable pub word_token : ℕ → List ℕ → List ℕ → ℕ → Token
-word_token n text l at =
-    cond (begins text l && not (is_letter_or_digit (get_or l (length text) 0))) (WordAt n (at + length text)) NoPiece
+unfoldable pub word_token : CodeWord → List ℕ → List ℕ → ℕ → Token
+word_token w text l at =
+    cond (begins text l && not (is_letter_or_digit (get_or l (length text) 0))) (WordAt w (at + length text)) NoPiece
 
 unfoldable pub item_token : ℕ → List ℕ → ℕ → Token
 item_token v l at =
