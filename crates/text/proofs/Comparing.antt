@@ -9,14 +9,16 @@ use native.Mathlib.Omega.{arith}
 use Rattle.std.proofs.Common.{Some, None}
 use denote.Enum.Declared.{tag_of}
 use lib.ListN.{length}
+use Rattle.grammar.specs.Pieces.{Equal, Unequal, Less, AtMost, Greater, AtLeast}
 use Rattle.grammar.specs.Pieces.{Item, Operator, Constant, number, word, operator, item, constant}
 use Rattle.grammar.specs.Grammar.{Operand, of_item, of_constant, compared}
 use Rattle.grammar.specs.Parser.{Next, at_end, wrong, found, next_at, Parsed, failed, parsed, item_of, operator_of}
 use Rattle.grammar.specs.Parser.{operand_of, ◌and_then◌, comparison_at}
-use Rattle.text.specs.Tokens.{operator_number, variable_number, name_number, magnitude, constant_token, token_of, shown}
+use Rattle.text.specs.Tokens.{operator_number, code_operator, code_operator_number, variable_number, name_number, magnitude, constant_token, token_of, shown}
 use Rattle.text.specs.Tokens.{token_at}
 use Rattle.text.specs.Programs.{sign_word, constant_words, operand_words, comparison_words, program, compared_words, right_words}
 use Rattle.text.specs.Programs.{ComparedShows}
+use Rattle.text.specs.declared.Operator.{Operator as CodeOperator}
 use Rattle.text.specs.declared.Operand.{Operand as CodeOperand}
 use Rattle.text.specs.declared.Operand.TheVariants as Side
 use Rattle.text.specs.declared.Token.{Token}
@@ -41,10 +43,10 @@ pub record TheItem (x : Next) (v m next : ℕ) : Type 0 where
   pub letter : variable_number it.variable ≡ v
   pub name : name_number it.name ≡ m
 
-pub record TheOperator (x : Next) (o next : ℕ) : Type 0 where
+pub record TheOperator (x : Next) (o : CodeOperator) (next : ℕ) : Type 0 where
   pub it : Operator
   pub is : x ≡ found (operator it) next
-  pub same : operator_number it ≡ o
+  pub same : code_operator it ≡ o
 
 pub record TheConstant (x : Next) (minus : Bool) (m next : ℕ) : Type 0 where
   pub digits : List ℕ
@@ -68,14 +70,14 @@ the_item (found (item i) mid) v m next e =
 the_item (found (constant k) mid) v m next e =
     clash (omega (arith, sym (constant_kind k mid) ∙ ap tag e))
 
-the_operator : (x : Next) (o next : ℕ) → shown x ≡ OperatorAt o next → TheOperator x o next
+the_operator : (x : Next) (o : CodeOperator) (next : ℕ) → shown x ≡ OperatorAt o next → TheOperator x o next
 unfolding shown token_of
 the_operator at_end o next e = clash (let z : ◌≡◌ {A = ℕ} 0 1 = cc in z)
 the_operator wrong o next e = clash (let z : ◌≡◌ {A = ℕ} 0 1 = cc in z)
 the_operator (found (word w) mid) o next e = clash (let z : ◌≡◌ {A = ℕ} 0 1 = cc in z)
 the_operator (found (operator p) mid) o next e =
     let there : mid ≡ next = cc in
-    let os : operator_number p ≡ o = cc in
+    let os : code_operator p ≡ o = cc in
     record { it = p; is = ap (found (operator p)) there; same = os }
 the_operator (found (item i) mid) o next e = clash (let z : ◌≡◌ {A = ℕ} 0 1 = cc in z)
 the_operator (found (constant k) mid) o next e =
@@ -104,7 +106,7 @@ abbrev pub NoItem : Token → Type 0
 NoItem t = (v m next : ℕ) → t ≡ ItemAt v m next → ⊥
 
 abbrev pub NoOperator : Token → Type 0
-NoOperator t = (o next : ℕ) → t ≡ OperatorAt o next → ⊥
+NoOperator t = (o : CodeOperator) (next : ℕ) → t ≡ OperatorAt o next → ⊥
 
 abbrev pub NoNumber : Token → Type 0
 NoNumber t = (minus : Bool) (m next : ℕ) → t ≡ NumberAt minus m next → ⊥
@@ -136,6 +138,15 @@ no_operand (found (operator o) mid) h k = refl
 no_operand (found (item i) mid) h k = absurd (h _ _ _ refl)
 no_operand (found (constant (number minus digits)) mid) h k = absurd (k _ _ _ refl)
 
+operator_numbered : (o : Operator) → code_operator_number (code_operator o) ≡ operator_number o
+unfolding code_operator code_operator_number operator_number
+operator_numbered Equal = refl
+operator_numbered Unequal = refl
+operator_numbered Less = refl
+operator_numbered AtMost = refl
+operator_numbered Greater = refl
+operator_numbered AtLeast = refl
+
 -- ---- what `comparison_at` gives
 
 pub then_failed : {A B : Type 0} {x : Parsed A} (k : A → ℕ → Parsed B) → x ≡ failed → (x and_then k) ≡ failed
@@ -166,7 +177,7 @@ module _ (s : List ℕ) (at : ℕ) where
         fails s at (then_parsed _ (ap item_of i1.is)
         ∙ then_failed _ (no_operator (next_at s mid) (subst NoOperator e k)))
 
-    module _ (o late : ℕ) (e2 : OperatorAt o late ≡ token_at s mid) where
+    module _ (o : CodeOperator) (late : ℕ) (e2 : OperatorAt o late ≡ token_at s mid) where
       i2 : TheOperator (next_at s mid) o late
       unfolding token_at
       i2 = the_operator (next_at s mid) o late (sym e2)
@@ -200,11 +211,14 @@ module _ (s : List ℕ) (at : ℕ) where
             found = record { letter = v; name = m; operator = o; right = right; next = next };
             same = refl;
             behind = refl;
-            words = λ j. 0 ∷ sym i1.letter j ∷ sym i1.name j ∷ sym i2.same j ∷ w j;
+            words = λ j. 0 ∷ sym i1.letter j ∷ sym i1.name j ∷ by j ∷ w j;
             depth = refl;
             long = omega (arith, (found_within s at i1.is).after, (found_within s mid i2.is).after);
             inside = k;
           })
+        where
+          by : code_operator_number o ≡ operator_number i2.it
+          by = sym (ap code_operator_number i2.same) ∙ operator_numbered i2.it
 
       pub third_item : (v2 m2 next : ℕ) → ItemAt v2 m2 next ≡ token_at s late
           → ComparedShows s at

@@ -17,8 +17,10 @@ use Rattle.grammar.specs.Pieces.{between, is_capital, is_small, is_digit, is_let
 use Rattle.grammar.specs.Pieces.{Not, And, Or, Piece, word, word_bytes, operator_bytes, bytes_of}
 use Rattle.grammar.specs.Pieces.{is_piece, apart, operator, Less, Greater}
 use Rattle.grammar.specs.Parser.{run, begins, fixed, first_of, stands, found, wrong, checked}
-use Rattle.text.specs.Tokens.{code_word, operator_number, name_number, magnitude, token_of, shown, word_token, item_token}
+use Rattle.text.specs.Tokens.{code_word, code_operator, name_number, magnitude, token_of, shown, word_token, item_token}
 use Rattle.text.specs.Tokens.{number_token, fixed_token}
+use Rattle.text.specs.declared.Operator.{Operator as CodeOperator}
+use Rattle.text.specs.declared.Operator.TheVariants as Sign
 use Rattle.text.specs.declared.Word.{Word as CodeWord}
 use Rattle.text.specs.declared.Word.TheVariants as Code
 use Rattle.text.specs.declared.Token.{Token}
@@ -98,9 +100,9 @@ module _ (l : List ℕ) (at : ℕ) where
       token_of is_letter_or_digit last_of is_capital is_small is_digit
   comma_front = refl
 
-  equal_front : OperatorAt 0 (at + 1) ≡ fixed_token (61 ∷ l) at
+  equal_front : OperatorAt Sign.Equal (at + 1) ≡ fixed_token (61 ∷ l) at
   unfolding fixed_token first_of fixed begins bytes_of word_bytes operator_bytes checked stands is_piece apart shown token_of
-      operator_number is_letter_or_digit last_of is_capital is_small is_digit
+      code_operator is_letter_or_digit last_of is_capital is_small is_digit
   equal_front = refl
 
 -- ---- the operators that begin with `<` and `>`
@@ -119,40 +121,40 @@ module _ (c : ℕ) (l : List ℕ) where
   first_less e f = rw (e, f, first_of)
 
 module _ (at : ℕ) where
-  greater_equal : (l : List ℕ) → OperatorAt 5 (at + 2) ≡ fixed_token (62 ∷ 61 ∷ l) at
+  greater_equal : (l : List ℕ) → OperatorAt Sign.AtLeast (at + 2) ≡ fixed_token (62 ∷ 61 ∷ l) at
   unfolding fixed_token first_of fixed begins bytes_of word_bytes operator_bytes checked stands is_piece apart shown token_of
-      operator_number is_letter_or_digit last_of is_capital is_small is_digit
+      code_operator is_letter_or_digit last_of is_capital is_small is_digit
   greater_equal l = refl
 
-  less_greater : (l : List ℕ) → OperatorAt 1 (at + 2) ≡ fixed_token (60 ∷ 62 ∷ l) at
+  less_greater : (l : List ℕ) → OperatorAt Sign.Unequal (at + 2) ≡ fixed_token (60 ∷ 62 ∷ l) at
   unfolding fixed_token first_of fixed begins bytes_of word_bytes operator_bytes checked stands is_piece apart shown token_of
-      operator_number is_letter_or_digit last_of is_capital is_small is_digit
+      code_operator is_letter_or_digit last_of is_capital is_small is_digit
   less_greater l = refl
 
-  less_equal : (l : List ℕ) → OperatorAt 3 (at + 2) ≡ fixed_token (60 ∷ 61 ∷ l) at
+  less_equal : (l : List ℕ) → OperatorAt Sign.AtMost (at + 2) ≡ fixed_token (60 ∷ 61 ∷ l) at
   unfolding fixed_token first_of fixed begins bytes_of word_bytes operator_bytes checked stands is_piece apart shown token_of
-      operator_number is_letter_or_digit last_of is_capital is_small is_digit
+      code_operator is_letter_or_digit last_of is_capital is_small is_digit
   less_equal l = refl
 
-  greater_alone : (l : List ℕ) → (get_or l 0 0 ≡ 61 → ⊥) → OperatorAt 4 (at + 1) ≡ fixed_token (62 ∷ l) at
+  greater_alone : (l : List ℕ) → (get_or l 0 0 ≡ 61 → ⊥) → OperatorAt Sign.Greater (at + 1) ≡ fixed_token (62 ∷ l) at
   unfolding fixed_token first_of fixed begins bytes_of word_bytes operator_bytes checked stands is_piece apart shown token_of
-      operator_number is_letter_or_digit last_of is_capital is_small is_digit
+      code_operator is_letter_or_digit last_of is_capital is_small is_digit
   greater_alone [] h = refl
   greater_alone (c ∷ l) h =
       sym (ap (λ (x : Option Piece). shown (checked at (62 ∷ c ∷ l) x))
       (first_greater c l (ne_eqb 61 c (λ e. h (sym e)))))
 
   less_alone : (l : List ℕ) → (get_or l 0 0 ≡ 62 → ⊥) → (get_or l 0 0 ≡ 61 → ⊥)
-      → OperatorAt 2 (at + 1) ≡ fixed_token (60 ∷ l) at
+      → OperatorAt Sign.Less (at + 1) ≡ fixed_token (60 ∷ l) at
   unfolding fixed_token first_of fixed begins bytes_of word_bytes operator_bytes checked stands is_piece apart shown token_of
-      operator_number is_letter_or_digit last_of is_capital is_small is_digit
+      code_operator is_letter_or_digit last_of is_capital is_small is_digit
   less_alone [] h k = refl
   less_alone (c ∷ l) h k =
       sym (ap (λ (x : Option Piece). shown (checked at (60 ∷ c ∷ l) x))
       (first_less c l (ne_eqb 62 c (λ e. h (sym e))) (ne_eqb 61 c (λ e. k (sym e)))))
 
   greater_front : (l : List ℕ)
-      → cond (eqb (get_or l 0 0) 61) (OperatorAt (4 + 1) (at + 2)) (OperatorAt 4 (at + 1)) ≡ fixed_token (62 ∷ l) at
+      → cond (eqb (get_or l 0 0) 61) (OperatorAt Sign.AtLeast (at + 2)) (OperatorAt Sign.Greater (at + 1)) ≡ fixed_token (62 ∷ l) at
   greater_front l = ⊎_elim
       (λ (e : get_or l 0 0 ≡ 61). rw (eq-eqb (get_or l 0 0) 61 e)
       (greater_equal (drop 1 l)
@@ -161,7 +163,7 @@ module _ (at : ℕ) where
       (eq_or_ne (get_or l 0 0) 61)
 
   less_front : (l : List ℕ) → (get_or l 0 0 ≡ 62 → ⊥)
-      → cond (eqb (get_or l 0 0) 61) (OperatorAt (2 + 1) (at + 2)) (OperatorAt 2 (at + 1)) ≡ fixed_token (60 ∷ l) at
+      → cond (eqb (get_or l 0 0) 61) (OperatorAt Sign.AtMost (at + 2)) (OperatorAt Sign.Less (at + 1)) ≡ fixed_token (60 ∷ l) at
   less_front l h = ⊎_elim
       (λ (e : get_or l 0 0 ≡ 61). rw (eq-eqb (get_or l 0 0) 61 e)
       (less_equal (drop 1 l)
@@ -169,7 +171,7 @@ module _ (at : ℕ) where
       (λ (n : get_or l 0 0 ≡ 61 → ⊥). rw (ne_eqb (get_or l 0 0) 61 n) (less_alone l h n))
       (eq_or_ne (get_or l 0 0) 61)
 
-  two_front : (l : List ℕ) → get_or l 0 0 ≡ 62 → OperatorAt 1 (at + 2) ≡ fixed_token (60 ∷ l) at
+  two_front : (l : List ℕ) → get_or l 0 0 ≡ 62 → OperatorAt Sign.Unequal (at + 2) ≡ fixed_token (60 ∷ l) at
   two_front l e = less_greater (drop 1 l)
       ∙ ap (λ (x : List ℕ). fixed_token (60 ∷ x) at) (sym (headed l 62 (λ z. absurd (omega arith)) e))
 
@@ -245,27 +247,27 @@ module _ (s : List ℕ) (at : ℕ) (h : at < length s) where
   pub fixed_comma : get_or s at 0 ≡ 44 → WordAt Code.Comma (at + 1) ≡ fixed_token (drop at s) at
   fixed_comma e = at_front 44 (λ l. WordAt Code.Comma (at + 1) ≡ fixed_token l at) e (comma_front _ at)
 
-  pub fixed_equal : get_or s at 0 ≡ 61 → OperatorAt 0 (at + 1) ≡ fixed_token (drop at s) at
-  fixed_equal e = at_front 61 (λ l. OperatorAt 0 (at + 1) ≡ fixed_token l at) e (equal_front _ at)
+  pub fixed_equal : get_or s at 0 ≡ 61 → OperatorAt Sign.Equal (at + 1) ≡ fixed_token (drop at s) at
+  fixed_equal e = at_front 61 (λ l. OperatorAt Sign.Equal (at + 1) ≡ fixed_token l at) e (equal_front _ at)
 
   pub fixed_greater : (r : Token) → get_or s at 0 ≡ 62
-      → r ≡ cond (eqb (get_or s (at + 1) 0) 61) (OperatorAt (4 + 1) (at + 2)) (OperatorAt 4 (at + 1))
+      → r ≡ cond (eqb (get_or s (at + 1) 0) 61) (OperatorAt Sign.AtLeast (at + 2)) (OperatorAt Sign.Greater (at + 1))
       → r ≡ fixed_token (drop at s) at
   fixed_greater r e f =
-      f ∙ ap (λ (b : ℕ). cond (eqb b 61) (OperatorAt (4 + 1) (at + 2)) (OperatorAt 4 (at + 1))) (sym (next_byte s at))
+      f ∙ ap (λ (b : ℕ). cond (eqb b 61) (OperatorAt Sign.AtLeast (at + 2)) (OperatorAt Sign.Greater (at + 1))) (sym (next_byte s at))
       ∙ greater_front at (drop (at + 1) s) ∙ ap (λ (l : List ℕ). fixed_token l at) (sym (front s at 62 h e))
 
   module _ (e : get_or s at 0 ≡ 60) (b : ℕ) (g : b ≡ get_or s (at + 1) 0) where
-    pub fixed_two : b ≡ 62 → OperatorAt 1 (at + 2) ≡ fixed_token (drop at s) at
+    pub fixed_two : b ≡ 62 → OperatorAt Sign.Unequal (at + 2) ≡ fixed_token (drop at s) at
     fixed_two k =
         two_front at (drop (at + 1) s) (next_byte s at ∙ sym g ∙ k)
         ∙ ap (λ (l : List ℕ). fixed_token l at) (sym (front s at 60 h e))
 
     pub fixed_less : (r : Token) → (b ≡ 62 → ⊥)
-        → r ≡ cond (eqb (get_or s (at + 1) 0) 61) (OperatorAt (2 + 1) (at + 2)) (OperatorAt 2 (at + 1))
+        → r ≡ cond (eqb (get_or s (at + 1) 0) 61) (OperatorAt Sign.AtMost (at + 2)) (OperatorAt Sign.Less (at + 1))
         → r ≡ fixed_token (drop at s) at
     fixed_less r n f =
-        f ∙ ap (λ (c : ℕ). cond (eqb c 61) (OperatorAt (2 + 1) (at + 2)) (OperatorAt 2 (at + 1))) (sym (next_byte s at))
+        f ∙ ap (λ (c : ℕ). cond (eqb c 61) (OperatorAt Sign.AtMost (at + 2)) (OperatorAt Sign.Less (at + 1))) (sym (next_byte s at))
         ∙ less_front at (drop (at + 1) s) (λ k. n (g ∙ sym (next_byte s at) ∙ k))
         ∙ ap (λ (l : List ℕ). fixed_token l at) (sym (front s at 60 h e))
 
@@ -351,11 +353,11 @@ module _ (s : List ℕ) (from end : ℕ) (e : end ≡ from + run (between 48 57)
 pub outside : (s : List ℕ) (at : ℕ) → length s ≤ at → 0 ≡ get_or s at 0
 outside s at h = sym (get_or-eq_default s 0 h)
 
-module _ (s : List ℕ) (at alone b : ℕ) (e : b ≡ get_or s (at + 1) 0) where
-  pub equal_behind : b ≡ 61 → OperatorAt (alone + 1) (at + 2)
-      ≡ cond (eqb (get_or s (at + 1) 0) 61) (OperatorAt (alone + 1) (at + 2)) (OperatorAt alone (at + 1))
+module _ (s : List ℕ) (at : ℕ) (alone equal : CodeOperator) (b : ℕ) (e : b ≡ get_or s (at + 1) 0) where
+  pub equal_behind : b ≡ 61 → OperatorAt equal (at + 2)
+      ≡ cond (eqb (get_or s (at + 1) 0) 61) (OperatorAt equal (at + 2)) (OperatorAt alone (at + 1))
   equal_behind h = rw (← e, eq-eqb b 61 h)
 
   pub no_equal_behind : (b ≡ 61 → ⊥) → OperatorAt alone (at + 1)
-      ≡ cond (eqb (get_or s (at + 1) 0) 61) (OperatorAt (alone + 1) (at + 2)) (OperatorAt alone (at + 1))
+      ≡ cond (eqb (get_or s (at + 1) 0) 61) (OperatorAt equal (at + 2)) (OperatorAt alone (at + 1))
   no_equal_behind n = rw (← e, ne_eqb b 61 n)

@@ -8,6 +8,7 @@ use Prim.Native.Nat.{ℕ, zero, suc, ◌+◌, ◌-◌, ◌*◌, ◌≤◌, ◌<�
 use native.Mathlib.Nat.{zero-max}
 use native.Mathlib.Numerals.{add-one}
 use native.Mathlib.Omega.{arith}
+use denote.Enum.Declared.{tag_of}
 use lib.ListN.{length, length-append}
 use Rattle.std.proofs.Common.{Option as CodeOption, Some, None}
 use Rattle.std.proofs.lemmas.Option.{same_Some}
@@ -15,11 +16,14 @@ use Rattle.grammar.specs.Pieces.{word, And, Or, Not, Opening, Closing}
 use Rattle.grammar.specs.Grammar.{negated, both, either}
 use Rattle.grammar.specs.Parser.{found, next_at, behind, Parsed, failed, parsed, ◌and_then◌, if_word, Deep}
 use Rattle.grammar.specs.Parser.{comparison_at, or_at, or_more, and_at, and_more, not_at, primary_at, condition_at}
-use Rattle.text.specs.Tokens.{code_word, token_at}
+use Rattle.text.specs.Tokens.{code_word, code_operator_number, token_at}
 use Rattle.text.specs.Programs.{program, written, Shows, Gave, after_token, with_word, word_written}
 use Rattle.text.specs.Programs.{closed_by, closing, compared_words, right_words, ComparedParsed, ComparedShows}
 use Rattle.text.specs.declared.Word.TheVariants as Code
 use Rattle.text.specs.declared.Parse.{Parse}
+use Rattle.text.specs.contracts.Operator.{the_type}
+use Rattle.text.specs.declared.Operator.{Operator as CodeOperator}
+use Rattle.text.specs.declared.Operator.TheVariants as Sign
 use Rattle.text.specs.declared.Operand.{Operand as CodeOperand}
 use Rattle.text.specs.declared.Operand.TheVariants as Side
 use Rattle.text.specs.declared.Compared.{Compared}
@@ -367,13 +371,23 @@ AndKeeps s at to first c₀ out c =
     → Gave (λ n. not_at n s at) (4 * (length s - at) + 2) s at to before first (Some c₀)
     → Round s And both 2 2 (λ n at. and_at n s at) (λ n at. not_at n s at) (λ n c at. and_more n s c at) at to before out c
 
+-- the number of an operator is its place among them
+pub operator_tag : (o : CodeOperator) → tag_of the_type o ≡ code_operator_number o
+unfolding code_operator_number
+operator_tag Sign.Equal = refl
+operator_tag Sign.Unequal = refl
+operator_tag Sign.Less = refl
+operator_tag Sign.AtMost = refl
+operator_tag Sign.Greater = refl
+operator_tag Sign.AtLeast = refl
+
 -- six words, one behind the other
 module _ (x : Compared) (to a1 a2 a3 a4 a5 a6 : ℕ) (o0 o1 o2 o3 o4 o5 o6 : List ℕ) (w1 w2 w3 w4 : ℕ)
     (room : to + 6 ≤ length o0) (e1 : a1 ≡ to + 1) (e2 : a2 ≡ a1 + 1) (e3 : a3 ≡ a2 + 1) (e4 : a4 ≡ a3 + 1)
     (e5 : a5 ≡ a4 + 1) (e6 : a6 ≡ a5 + 1) (f1 : o1 ≡ written to (0 ∷ []) o0) (f2 : o2 ≡ written a1 (w1 ∷ []) o1)
     (f3 : o3 ≡ written a2 (x.name ∷ []) o2) (f4 : o4 ≡ written a3 (w2 ∷ []) o3)
     (f5 : o5 ≡ written a4 (w3 ∷ []) o4) (f6 : o6 ≡ written a5 (w4 ∷ []) o5) (g1 : w1 ≡ x.letter)
-    (g2 : w2 ≡ x.operator) (g3 : w3 ∷ w4 ∷ [] ≡ right_words x.right) where
+    (g2 : w2 ≡ code_operator_number x.operator) (g3 : w3 ∷ w4 ∷ [] ≡ right_words x.right) where
   one_on : (k a : ℕ) (l o o' : List ℕ) (w : ℕ) → o ≡ written to l o0 → length l ≡ k → a ≡ to + k → k < 6
       → o' ≡ written a (w ∷ []) o → o' ≡ written to (l ++ w ∷ []) o0
   one_on k a l o o' w f g e h q =

@@ -8,6 +8,8 @@ use Rattle.grammar.specs.Pieces.{AtLeast, Variable, blank, letter, Constant, num
 use Rattle.grammar.specs.Pieces.{Word, Retrieve, Where, Not, And, Or, Opening, Closing, Comma}
 use Rattle.grammar.specs.Pieces.{constant}
 use Rattle.grammar.specs.Parser.{run, begins, fixed, first_of, Next, at_end, wrong, found, checked, next_at}
+use Rattle.text.specs.declared.Operator.{Operator as CodeOperator}
+use Rattle.text.specs.declared.Operator.TheVariants as Sign
 use Rattle.text.specs.declared.Word.{Word as CodeWord}
 use Rattle.text.specs.declared.Word.TheVariants as Code
 use Rattle.text.specs.declared.Token.{Token}
@@ -69,12 +71,29 @@ code_word_number Code.Open = 5
 code_word_number Code.Close = 6
 code_word_number Code.Comma = 7
 
+-- the code's value of an operator, and its number, which is `operator_number`
+unfoldable pub code_operator : Operator → CodeOperator
+code_operator Equal = Sign.Equal
+code_operator Unequal = Sign.Unequal
+code_operator Less = Sign.Less
+code_operator AtMost = Sign.AtMost
+code_operator Greater = Sign.Greater
+code_operator AtLeast = Sign.AtLeast
+
+unfoldable pub code_operator_number : CodeOperator → ℕ
+code_operator_number Sign.Equal = 0
+code_operator_number Sign.Unequal = 1
+code_operator_number Sign.Less = 2
+code_operator_number Sign.AtMost = 3
+code_operator_number Sign.Greater = 4
+code_operator_number Sign.AtLeast = 5
+
 unfoldable pub constant_token : Constant → ℕ → Token
 constant_token (number minus digits) next = NumberAt minus (magnitude digits) next
 
 unfoldable pub token_of : Piece → ℕ → Token
 token_of (word w) next = WordAt (code_word w) next
-token_of (operator o) next = OperatorAt (operator_number o) next
+token_of (operator o) next = OperatorAt (code_operator o) next
 token_of (item i) next = ItemAt (variable_number i.variable) (name_number i.name) next
 token_of (constant k) next = constant_token k next
 

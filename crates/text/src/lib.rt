@@ -30,6 +30,17 @@ pub enum Word {
     Comma,
 }
 
+// The operators, in the order of their numbers.
+#[derive(Clone, Copy)]
+pub enum Operator {
+    Equal,
+    Unequal,
+    Less,
+    AtMost,
+    Greater,
+    AtLeast,
+}
+
 // The words of a program that are no part of a comparison, and the first one of a comparison.
 const COMPARISON: u64 = 0;
 
@@ -47,8 +58,7 @@ pub enum Token {
     // No piece.
     NoPiece,
     WordAt(Word, usize),
-    // An operator's number.
-    OperatorAt(u8, usize),
+    OperatorAt(Operator, usize),
     // The letter of the variable, 0 for the blank one, and the number of the name.
     ItemAt(u8, u64, usize),
     // Whether there is a minus, and the value of the digits, 2 ^ 32 where it is more.
@@ -182,15 +192,14 @@ fn constant(s: &[u8], from: usize, minus: bool) -> Token
     Token::NumberAt(minus, magnitude(s, from, end), end)
 }
 
-// The operator that begins with a byte which may stand alone, `alone` being its number then; with `=` behind it, it is
-// the next one.
-fn with_equal(s: &[u8], at: usize, alone: u8) -> Token
-    requires { (at < length s.now) × (alone < 6) }
-    ensures { result ≡ cond (eqb (get_or s.now (at + 1) 0) 61) (Token.OperatorAt (alone + 1) (at + 2))
+// The operator that begins with a byte which may stand alone, and is another one with `=` behind it.
+fn with_equal(s: &[u8], at: usize, alone: Operator, equal: Operator) -> Token
+    requires { at < length s.now }
+    ensures { result ≡ cond (eqb (get_or s.now (at + 1) 0) 61) (Token.OperatorAt equal (at + 2))
         (Token.OperatorAt alone (at + 1)) }
 {
     if byte_at(s, at + 1) == b'=' {
-        return Token::OperatorAt(alone + 1, at + 2);
+        return Token::OperatorAt(equal, at + 2);
     }
     Token::OperatorAt(alone, at + 1)
 }
@@ -201,9 +210,9 @@ fn less(s: &[u8], at: usize) -> Token
     ensures { result ≡ fixed_token (drop at s.now) at }
 {
     if byte_at(s, at + 1) == b'>' {
-        return Token::OperatorAt(1, at + 2);
+        return Token::OperatorAt(Operator::Unequal, at + 2);
     }
-    with_equal(s, at, 2)
+    with_equal(s, at, Operator::Less, Operator::AtMost)
 }
 
 // The word, mark or operator that stands at a position.
@@ -221,8 +230,8 @@ fn fixed(s: &[u8], at: usize) -> Token
         b')' => Token::WordAt(Word::Close, at + 1),
         b',' => Token::WordAt(Word::Comma, at + 1),
         b'<' => less(s, at),
-        b'>' => with_equal(s, at, 4),
-        b'=' => Token::OperatorAt(0, at + 1),
+        b'>' => with_equal(s, at, Operator::Greater, Operator::AtLeast),
+        b'=' => Token::OperatorAt(Operator::Equal, at + 1),
         _ => Token::NoPiece,
     }
 }
@@ -270,7 +279,7 @@ pub enum Operand {
 pub struct Compared {
     pub letter: u8,
     pub name: u64,
-    pub operator: u8,
+    pub operator: Operator,
     pub right: Operand,
     // The position of the text behind it.
     pub next: usize,
@@ -362,7 +371,7 @@ fn put_comparison(x: Compared, out: &mut [u64], to: usize) -> usize
     let mut at = put(out, to, COMPARISON);
     at = put(out, at, u64::from(x.letter));
     at = put(out, at, x.name);
-    at = put(out, at, u64::from(x.operator));
+    at = put(out, at, x.operator as u64);
     at = put(out, at, first);
     put(out, at, second)
 }

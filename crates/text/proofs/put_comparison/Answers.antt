@@ -1,6 +1,6 @@
 -- `text::put_comparison` meets its contract. Six words, one behind the other (`six_written`).
 -- Assumes nothing.
-use Rattle.text.proofs.Parsers.{six_written}
+use Rattle.text.proofs.Parsers.{six_written, operator_tag}
 use Rattle.text.proofs.put_comparison.Goals as goal
 
 pub returns : goal.returns
@@ -9,4 +9,4 @@ returns c =
     c.put-at.ensures.value c.put-at-2.ensures.value c.put-at-3.ensures.value c.put-at-4.ensures.value
     c.put-at-5.ensures.value c.put.ensures.value c.put-at.ensures.out_after c.put-at-2.ensures.out_after
     c.put-at-3.ensures.out_after c.put-at-4.ensures.out_after c.put-at-5.ensures.out_after c.put.ensures.out_after
-    c.from.ensures c.from-2.ensures c.right_words-first.ensures in record { value = r.0; out_after = r.1 }
+    c.from.ensures (operator_tag c.args.x.operator) c.right_words-first.ensures in record { value = r.0; out_after = r.1 }
