@@ -30,7 +30,7 @@ pub enum Word {
     Comma,
 }
 
-// The operators, in the order of their numbers.
+// The operators, in the order of their numbers in a program.
 #[derive(Clone, Copy)]
 pub enum Operator {
     Equal,
@@ -41,9 +41,10 @@ pub enum Operator {
     AtLeast,
 }
 
-// The words of a program that are no part of a comparison, and the first one of a comparison.
+// The first word of a comparison in a program.
 const COMPARISON: u64 = 0;
 
+// The words of a program that stand behind what they negate or join.
 const NOT: u64 = 1;
 
 const AND: u64 = 2;
