@@ -6,16 +6,16 @@ use mathlib.Core.Bool.{Bool}
 use mathlib.Core.List.{List, [], ◌∷◌}
 use Prim.Native.Nat.{ℕ, ◌≤◌, ◌<◌}
 use native.Mathlib.Omega.{arith}
-use Rattle.std.proofs.Common.{Some, None}
+use Rattle.std.proofs.Common.{Option as CodeOption, Some, None}
 use denote.Enum.Declared.{tag_of}
 use lib.ListN.{length}
-use Rattle.grammar.specs.Pieces.{Equal, Unequal, Less, AtMost, Greater, AtLeast}
+use Rattle.grammar.specs.Pieces.{Variable, blank, letter, Equal, Unequal, Less, AtMost, Greater, AtLeast}
 use Rattle.grammar.specs.Pieces.{Item, Operator, Constant, number, word, operator, item, constant}
 use Rattle.grammar.specs.Grammar.{Operand, of_item, of_constant, compared}
 use Rattle.grammar.specs.Parser.{Next, at_end, wrong, found, next_at, Parsed, failed, parsed, item_of, operator_of}
 use Rattle.grammar.specs.Parser.{operand_of, ◌and_then◌, comparison_at}
 use Rattle.text.specs.Tokens.{operator_number, code_operator, code_operator_number, variable_number, name_number, magnitude, constant_token, token_of, shown}
-use Rattle.text.specs.Tokens.{token_at}
+use Rattle.text.specs.Tokens.{token_at, code_letter, letter_word}
 use Rattle.text.specs.Programs.{sign_word, constant_words, operand_words, comparison_words, program, compared_words, right_words}
 use Rattle.text.specs.Programs.{ComparedShows}
 use Rattle.text.specs.declared.Operator.{Operator as CodeOperator}
@@ -37,10 +37,10 @@ unfolding constant_token
 constant_kind (number minus digits) next = refl
 
 -- the item of an item's token
-pub record TheItem (x : Next) (v m next : ℕ) : Type 0 where
+pub record TheItem (x : Next) (v : CodeOption ℕ) (m next : ℕ) : Type 0 where
   pub it : Item
   pub is : x ≡ found (item it) next
-  pub letter : variable_number it.variable ≡ v
+  pub letter : code_letter it.variable ≡ v
   pub name : name_number it.name ≡ m
 
 pub record TheOperator (x : Next) (o : CodeOperator) (next : ℕ) : Type 0 where
@@ -56,7 +56,7 @@ pub record TheConstant (x : Next) (minus : Bool) (m next : ℕ) : Type 0 where
 abbrev tag : Token → ℕ
 tag t = tag_of the_type t
 
-pub the_item : (x : Next) (v m next : ℕ) → shown x ≡ ItemAt v m next → TheItem x v m next
+pub the_item : (x : Next) (v : CodeOption ℕ) (m next : ℕ) → shown x ≡ ItemAt v m next → TheItem x v m next
 unfolding shown token_of
 the_item at_end v m next e = clash (let z : ◌≡◌ {A = ℕ} 0 1 = cc in z)
 the_item wrong v m next e = clash (let z : ◌≡◌ {A = ℕ} 0 1 = cc in z)
@@ -64,7 +64,7 @@ the_item (found (word w) mid) v m next e = clash (let z : ◌≡◌ {A = ℕ} 0 
 the_item (found (operator o) mid) v m next e = clash (let z : ◌≡◌ {A = ℕ} 0 1 = cc in z)
 the_item (found (item i) mid) v m next e =
     let there : mid ≡ next = cc in
-    let vs : variable_number i.variable ≡ v = cc in
+    let vs : code_letter i.variable ≡ v = cc in
     let ms : name_number i.name ≡ m = cc in
     record { it = i; is = ap (found (item i)) there; letter = vs; name = ms }
 the_item (found (constant k) mid) v m next e =
@@ -103,7 +103,7 @@ the_constant (found (constant k) mid) b m next e = constant_of k mid b m next e
 
 -- tokens that are none of a sort
 abbrev pub NoItem : Token → Type 0
-NoItem t = (v m next : ℕ) → t ≡ ItemAt v m next → ⊥
+NoItem t = (v : CodeOption ℕ) (m next : ℕ) → t ≡ ItemAt v m next → ⊥
 
 abbrev pub NoOperator : Token → Type 0
 NoOperator t = (o : CodeOperator) (next : ℕ) → t ≡ OperatorAt o next → ⊥
@@ -138,6 +138,15 @@ no_operand (found (operator o) mid) h k = refl
 no_operand (found (item i) mid) h k = absurd (h _ _ _ refl)
 no_operand (found (constant (number minus digits)) mid) h k = absurd (k _ _ _ refl)
 
+lettered : (v : Variable) → letter_word (code_letter v) ≡ variable_number v
+unfolding code_letter letter_word variable_number
+lettered blank = refl
+lettered (letter b) = refl
+
+pub its_letter : {x : Next} {v : CodeOption ℕ} {m next : ℕ} (t : TheItem x v m next)
+    → letter_word v ≡ variable_number t.it.variable
+its_letter t = sym (ap letter_word t.letter) ∙ lettered t.it.variable
+
 operator_numbered : (o : Operator) → code_operator_number (code_operator o) ≡ operator_number o
 unfolding code_operator code_operator_number operator_number
 operator_numbered Equal = refl
@@ -162,7 +171,7 @@ module _ (s : List ℕ) (at : ℕ) where
   unfolding comparison_at token_at
   first_fails e k = fails s at (then_failed _ (no_item (next_at s at) (subst NoItem e k)))
 
-  module _ (v m mid : ℕ) (e1 : ItemAt v m mid ≡ token_at s at) where
+  module _ (v : CodeOption ℕ) (m mid : ℕ) (e1 : ItemAt v m mid ≡ token_at s at) where
     i1 : TheItem (next_at s at) v m mid
     unfolding token_at
     i1 = the_item (next_at s at) v m mid (sym e1)
@@ -211,7 +220,7 @@ module _ (s : List ℕ) (at : ℕ) where
             found = record { letter = v; name = m; operator = o; right = right; next = next };
             same = refl;
             behind = refl;
-            words = λ j. 0 ∷ sym i1.letter j ∷ sym i1.name j ∷ by j ∷ w j;
+            words = λ j. 0 ∷ its_letter i1 j ∷ sym i1.name j ∷ by j ∷ w j;
             depth = refl;
             long = omega (arith, (found_within s at i1.is).after, (found_within s mid i2.is).after);
             inside = k;
@@ -220,7 +229,7 @@ module _ (s : List ℕ) (at : ℕ) where
           by : code_operator_number o ≡ operator_number i2.it
           by = sym (ap code_operator_number i2.same) ∙ operator_numbered i2.it
 
-      pub third_item : (v2 m2 next : ℕ) → ItemAt v2 m2 next ≡ token_at s late
+      pub third_item : (v2 : CodeOption ℕ) (m2 next : ℕ) → ItemAt v2 m2 next ≡ token_at s late
           → ComparedShows s at
           (Some (record { letter = v; name = m; operator = o; right = Side.Item v2 m2; next = next }))
           (comparison_at s at)
@@ -229,7 +238,7 @@ module _ (s : List ℕ) (at : ℕ) where
           let i3 = the_item (next_at s late) v2 m2 next (sym e3) in
           let w = found_within s late i3.is in
           done (of_item i3.it) (Side.Item v2 m2) next (ap operand_of i3.is) w.after w.inside
-          (λ j. sym i3.letter j ∷ sym i3.name j ∷ [])
+          (λ j. its_letter i3 j ∷ sym i3.name j ∷ [])
 
       pub third_constant : (minus : Bool) (m2 next : ℕ) → NumberAt minus m2 next ≡ token_at s late
           → ComparedShows s at

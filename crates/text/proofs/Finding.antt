@@ -10,13 +10,14 @@ use native.Mathlib.Omega.{arith}
 use native.Mathlib.Decide.{dec_lt}
 use borrow.Author.Tests.{eq-eqb, ne_eqb, leb-true, le-leb, lt-leb}
 use lib.Dec.{leb}
+use Rattle.std.proofs.Common.{Some, None}
 use Rattle.sets.proofs.Tests.{yes_and}
 use lib.ListN.{length, get_or, drop, drop_of_length-le}
 use lib.Seq.{drop-drop}
 use Rattle.grammar.specs.Pieces.{between, is_capital, is_small, is_digit, is_space, blank, letter, variable_bytes, is_variable}
 use Rattle.grammar.specs.Pieces.{Piece}
 use Rattle.grammar.specs.Parser.{run, item_from, constant_from, fixed, first_of, candidate, checked, next_front, next_at}
-use Rattle.text.specs.Tokens.{variable_number, shown, token_at, item_token, number_token, fixed_token}
+use Rattle.text.specs.Tokens.{code_letter, shown, token_at, item_token, number_token, fixed_token}
 use Rattle.text.specs.declared.Token.{Token}
 use Rattle.text.specs.declared.Token.TheVariants.{AtEnd}
 use Rattle.text.proofs.Scanning.{drop_inside}
@@ -87,11 +88,11 @@ module _ (s : List ℕ) (at start : ℕ) (e : start ≡ at + run (between 32 32)
     token_case x f = token_begun ∙ ap (λ (y : Option Piece). shown (checked start (b ∷ rest) y)) f
 
     module _ (t : Bool) (et : t ≡ between 65 90 b) where
-      pub token_capital : (r : Token) → t ≡ true → r ≡ item_token 0 (drop start s) start → r ≡ token_at s at
-      unfolding candidate is_capital is_variable variable_bytes variable_number
+      pub token_capital : (r : Token) → t ≡ true → r ≡ item_token None (drop start s) start → r ≡ token_at s at
+      unfolding candidate is_capital is_variable variable_bytes code_letter
       token_capital r y f =
-          f ∙ ap (λ (l : List ℕ). item_token 0 l start) here
-          ∙ ap (item_token 0 (b ∷ rest)) zero_more
+          f ∙ ap (λ (l : List ℕ). item_token None l start) here
+          ∙ ap (item_token None (b ∷ rest)) zero_more
           ∙ sym (token_case (some (item_from blank (b ∷ rest))) (rw (sym et ∙ y)) ∙ item_token_fact blank (b ∷ rest) refl start)
         where
           zero_more : start ≡ start + 0
@@ -99,8 +100,8 @@ module _ (s : List ℕ) (at start : ℕ) (e : start ≡ at + run (between 32 32)
 
       module _ (n : t ≡ false) (u : Bool) (eu : u ≡ between 97 122 b) where
         pub token_dotted : (r : Token) (c : ℕ) → u ≡ true → c ≡ get_or s (start + 1) 0 → c ≡ 46
-            → r ≡ item_token b (drop (start + 2) s) (start + 2) → r ≡ token_at s at
-        unfolding variable_bytes variable_number is_variable is_small
+            → r ≡ item_token (Some b) (drop (start + 2) s) (start + 2) → r ≡ token_at s at
+        unfolding variable_bytes code_letter is_variable is_small
         token_dotted r c y ec k f =
             f ∙ sym (token_case (some (item_from (letter b) (drop (start + 2) s)))
             (candidate_dotted b rest (sym et ∙ n) (drop (start + 2) s) (sym eu ∙ y) split)
@@ -169,11 +170,11 @@ module _ (s : List ℕ) (at start : ℕ) (e : start ≡ at + run (between 32 32)
     within first last e =
         let p = yes_and (leb first b) (leb b last) e in (leb-true first b p.0, leb-true b last p.1)
 
-    pub at_capital : (r : Token) → 65 ≤ b → b ≤ 90 → r ≡ item_token 0 (drop start s) start → r ≡ token_at s at
+    pub at_capital : (r : Token) → 65 ≤ b → b ≤ 90 → r ≡ item_token None (drop start s) start → r ≡ token_at s at
     at_capital r p q f = token_capital (between 65 90 b) refl r (in_range 65 90 p q) f
 
     pub at_dotted : (r : Token) (c : ℕ) → 97 ≤ b → b ≤ 122 → c ≡ get_or s (start + 1) 0 → c ≡ 46
-        → r ≡ item_token b (drop (start + 2) s) (start + 2) → r ≡ token_at s at
+        → r ≡ item_token (Some b) (drop (start + 2) s) (start + 2) → r ≡ token_at s at
     at_dotted r c p q ec k f =
         token_dotted (between 65 90 b) refl (out_of_range 65 90 (λ x y. absurd (omega arith))) (between 97 122 b) refl r c
         (in_range 97 122 p q) ec k f

@@ -8,7 +8,7 @@ use native.Mathlib.Omega.{arith}
 use lib.ListN.{length, length-append}
 use Rattle.grammar.specs.Pieces.{Item, Comma, word}
 use Rattle.grammar.specs.Parser.{found, next_at, Parsed, failed, parsed, item_of, ◌and_then◌, items_at}
-use Rattle.text.specs.Tokens.{code_word, variable_number, name_number, token_at}
+use Rattle.text.specs.Tokens.{code_word, letter_word, variable_number, name_number, token_at}
 use Rattle.text.specs.Programs.{item_words, written, after_token, ItemsShow}
 use Rattle.std.proofs.Common.{Option as CodeOption, Some, None}
 use Rattle.text.specs.declared.Word.TheVariants as Code
@@ -17,7 +17,7 @@ use Rattle.text.specs.declared.Token.TheVariants.{ItemAt}
 use Rattle.text.specs.declared.Items.{Items}
 use Rattle.grammar.proofs.Nexts.{Within, found_within}
 use Rattle.grammar.proofs.Complete.{takes_word, if_some, if_none, then_parsed}
-use Rattle.text.proofs.Comparing.{NoItem, TheItem, the_item, no_item, then_failed}
+use Rattle.text.proofs.Comparing.{its_letter, NoItem, TheItem, the_item, no_item, then_failed}
 use Rattle.text.proofs.Writing.{written_length, written_both, after_none, after_some}
 
 -- ---- one thing behind another
@@ -98,7 +98,7 @@ module _ (s : List ℕ) (at : ℕ) (before : List ℕ) where
         none_there zero = refl
         none_there (suc j) = then_failed _ (no_item (next_at s here) (subst NoItem e k))
 
-    module _ (v m mid : ℕ) (e : ItemAt v m mid ≡ token_at s here) where
+    module _ (v : CodeOption ℕ) (m mid : ℕ) (e : ItemAt v m mid ≡ token_at s here) where
       there : TheItem (next_at s here) v m mid
       unfolding token_at
       there = the_item (next_at s here) v m mid (sym e)
@@ -125,30 +125,30 @@ module _ (s : List ℕ) (at : ℕ) (before : List ℕ) where
       more_long = length-append g.done (there.it ∷ []) ∙ omega (arith, g.counted)
 
       -- its two words
-      more_words : {x place : ℕ} {once out' : List ℕ} → x ≡ v → once ≡ written (2 * n) (x ∷ []) out → place ≡ 2 * n + 1
+      more_words : {x place : ℕ} {once out' : List ℕ} → x ≡ letter_word v → once ≡ written (2 * n) (x ∷ []) out → place ≡ 2 * n + 1
           → out' ≡ written place (m ∷ []) once → out' ≡ written 0 (item_words more) before
       unfolding more
       more_words {place = place} {once} {out'} z h p k =
           let ws : List ℕ = item_words g.done in
           let l : length ws ≡ 2 * n = omega (arith, words_long g.done, g.counted) in
           let l0 : 2 * n ≡ 0 + length ws = omega (arith, l) in
-          let l1 : 2 * n + 1 ≡ 0 + length (ws ++ v ∷ []) = omega (arith, length-append ws (v ∷ []), l) in
-          let r : 0 + length (ws ++ v ∷ []) ≤ length before =
-          omega (arith, length-append ws (v ∷ []), l, g.few, mid_within.after, mid_within.inside, room) in
-          let one : once ≡ written 0 (ws ++ v ∷ []) before =
+          let l1 : 2 * n + 1 ≡ 0 + length (ws ++ letter_word v ∷ []) = omega (arith, length-append ws (letter_word v ∷ []), l) in
+          let r : 0 + length (ws ++ letter_word v ∷ []) ≤ length before =
+          omega (arith, length-append ws (letter_word v ∷ []), l, g.few, mid_within.after, mid_within.inside, room) in
+          let one : once ≡ written 0 (ws ++ letter_word v ∷ []) before =
           h ∙ ap (λ (y : ℕ). written (2 * n) (y ∷ []) out) z
-          ∙ ap₂ (λ (j : ℕ) (x : List ℕ). written j (v ∷ []) x) l0 g.words
-          ∙ written_both 0 ws (v ∷ []) before (omega (arith, l, g.few, g.inside, room)) in
-          let two : out' ≡ written 0 ((ws ++ v ∷ []) ++ m ∷ []) before =
+          ∙ ap₂ (λ (j : ℕ) (x : List ℕ). written j (letter_word v ∷ []) x) l0 g.words
+          ∙ written_both 0 ws (letter_word v ∷ []) before (omega (arith, l, g.few, g.inside, room)) in
+          let two : out' ≡ written 0 ((ws ++ letter_word v ∷ []) ++ m ∷ []) before =
           k ∙ ap₂ (λ (j : ℕ) (x : List ℕ). written j (m ∷ []) x) (p ∙ l1) one
-          ∙ written_both 0 (ws ++ v ∷ []) (m ∷ []) before r in
+          ∙ written_both 0 (ws ++ letter_word v ∷ []) (m ∷ []) before r in
           two
           ∙ ap (λ (x : List ℕ). written 0 x before)
-          (append_assoc ws (v ∷ []) (m ∷ [])
-          ∙ ap₂ (λ (x y : ℕ). ws ++ x ∷ y ∷ []) (sym there.letter) (sym there.name)
+          (append_assoc ws (letter_word v ∷ []) (m ∷ [])
+          ∙ ap₂ (λ (x y : ℕ). ws ++ x ∷ y ∷ []) (its_letter there) (sym there.name)
           ∙ sym (words_more g.done there.it))
 
-      pub more_same : {x place : ℕ} {once out' : List ℕ} → x ≡ v → once ≡ written (2 * n) (x ∷ []) out → place ≡ 2 * n + 1
+      pub more_same : {x place : ℕ} {once out' : List ℕ} → x ≡ letter_word v → once ≡ written (2 * n) (x ∷ []) out → place ≡ 2 * n + 1
           → out' ≡ written place (m ∷ []) once → length out' ≡ length before
       more_same z h p k =
           ap length (more_words z h p k)
@@ -161,7 +161,7 @@ module _ (s : List ℕ) (at : ℕ) (before : List ℕ) where
       taken (suc j) h = (j, refl)
 
       -- the last
-      pub going_last : {x place : ℕ} {once out' : List ℕ} {k : ℕ} → None ≡ after_token Code.Comma (token_at s mid) → x ≡ v
+      pub going_last : {x place : ℕ} {once out' : List ℕ} {k : ℕ} → None ≡ after_token Code.Comma (token_at s mid) → x ≡ letter_word v
           → once ≡ written (2 * n) (x ∷ []) out → place ≡ 2 * n + 1 → out' ≡ written place (m ∷ []) once → k ≡ n + 1
           → ItemsShow s at before out' (Some (record { count = k; next = mid })) (items_at (length s) s at)
       unfolding ItemsShow items_at item_of more code_word
@@ -189,7 +189,7 @@ module _ (s : List ℕ) (at : ℕ) (before : List ℕ) where
         comma_within = found_within s mid comma_there
 
         -- one more behind a comma
-        pub going_next : {x place : ℕ} {once out' : List ℕ} {k : ℕ} → x ≡ v → once ≡ written (2 * n) (x ∷ []) out
+        pub going_next : {x place : ℕ} {once out' : List ℕ} {k : ℕ} → x ≡ letter_word v → once ≡ written (2 * n) (x ∷ []) out
             → place ≡ 2 * n + 1 → out' ≡ written place (m ∷ []) once → k ≡ n + 1 → Going k comma out'
         unfolding items_at item_of more ◌and_then◌
         going_next z h p w q =

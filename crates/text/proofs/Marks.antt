@@ -9,6 +9,7 @@ use Prim.Native.Nat.{ℕ, ◌+◌, ◌-◌, ◌≤◌, ◌<◌}
 use native.Mathlib.Omega.{arith}
 use borrow.Author.Tests.{lt-leb, le-leb, eq-eqb, ne_eqb}
 use lib.Dec.{eqb}
+use Rattle.std.proofs.Common.{Option as CodeOption}
 use lib.ListN.{length, get_or, take, drop, get_or-eq_default}
 use lib.Seq.{get_or-drop}
 use mathlib.Core.Logic.{⊎_elim}
@@ -285,11 +286,11 @@ module _ (s : List ℕ) (from end : ℕ) (e : end ≡ from + run (between 65 90)
   unfolding is_capital
   letters = omega arith
 
-  pub item_none : (v : ℕ) → end ≡ from → NoPiece ≡ item_token v (drop from s) from
+  pub item_none : (v : CodeOption ℕ) → end ≡ from → NoPiece ≡ item_token v (drop from s) from
   unfolding item_token
   item_none v h = let z : run is_capital (drop from s) ≡ 0 = omega (arith, letters) in rw z
 
-  pub item_long : (v : ℕ) → 12 < end - from → NoPiece ≡ item_token v (drop from s) from
+  pub item_long : (v : CodeOption ℕ) → 12 < end - from → NoPiece ≡ item_token v (drop from s) from
   unfolding item_token
   item_long v h = rw (
     letters,
@@ -304,7 +305,7 @@ module _ (s : List ℕ) (from end : ℕ) (e : end ≡ from + run (between 65 90)
         there : from + (end - from) ≡ end
         there = omega arith
 
-    pub item_goes : (v : ℕ) → u ≡ true → NoPiece ≡ item_token v (drop from s) from
+    pub item_goes : (v : CodeOption ℕ) → u ≡ true → NoPiece ≡ item_token v (drop from s) from
     unfolding item_token
     item_goes v k = rw (
       letters,
@@ -315,7 +316,7 @@ module _ (s : List ℕ) (from end : ℕ) (e : end ≡ from + run (between 65 90)
       k,
     )
 
-    pub item_is : (v m : ℕ) → u ≡ false → m ≡ name_number (take (end - from) (drop from s))
+    pub item_is : (v : CodeOption ℕ) (m : ℕ) → u ≡ false → m ≡ name_number (take (end - from) (drop from s))
         → ItemAt v m end ≡ item_token v (drop from s) from
     unfolding item_token
     item_is v m k g =

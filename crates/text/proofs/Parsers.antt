@@ -16,7 +16,7 @@ use Rattle.grammar.specs.Pieces.{word, And, Or, Not, Opening, Closing}
 use Rattle.grammar.specs.Grammar.{negated, both, either}
 use Rattle.grammar.specs.Parser.{found, next_at, behind, Parsed, failed, parsed, ◌and_then◌, if_word, Deep}
 use Rattle.grammar.specs.Parser.{comparison_at, or_at, or_more, and_at, and_more, not_at, primary_at, condition_at}
-use Rattle.text.specs.Tokens.{code_word, code_operator_number, token_at}
+use Rattle.text.specs.Tokens.{code_word, letter_word, code_operator_number, token_at}
 use Rattle.text.specs.Programs.{program, written, Shows, Gave, after_token, with_word, word_written}
 use Rattle.text.specs.Programs.{closed_by, closing, compared_words, right_words, ComparedParsed, ComparedShows}
 use Rattle.text.specs.declared.Word.TheVariants as Code
@@ -386,7 +386,7 @@ module _ (x : Compared) (to a1 a2 a3 a4 a5 a6 : ℕ) (o0 o1 o2 o3 o4 o5 o6 : Lis
     (room : to + 6 ≤ length o0) (e1 : a1 ≡ to + 1) (e2 : a2 ≡ a1 + 1) (e3 : a3 ≡ a2 + 1) (e4 : a4 ≡ a3 + 1)
     (e5 : a5 ≡ a4 + 1) (e6 : a6 ≡ a5 + 1) (f1 : o1 ≡ written to (0 ∷ []) o0) (f2 : o2 ≡ written a1 (w1 ∷ []) o1)
     (f3 : o3 ≡ written a2 (x.name ∷ []) o2) (f4 : o4 ≡ written a3 (w2 ∷ []) o3)
-    (f5 : o5 ≡ written a4 (w3 ∷ []) o4) (f6 : o6 ≡ written a5 (w4 ∷ []) o5) (g1 : w1 ≡ x.letter)
+    (f5 : o5 ≡ written a4 (w3 ∷ []) o4) (f6 : o6 ≡ written a5 (w4 ∷ []) o5) (g1 : w1 ≡ letter_word x.letter)
     (g2 : w2 ≡ code_operator_number x.operator) (g3 : w3 ∷ w4 ∷ [] ≡ right_words x.right) where
   one_on : (k a : ℕ) (l o o' : List ℕ) (w : ℕ) → o ≡ written to l o0 → length l ≡ k → a ≡ to + k → k < 6
       → o' ≡ written a (w ∷ []) o → o' ≡ written to (l ++ w ∷ []) o0

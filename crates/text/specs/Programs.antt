@@ -9,7 +9,7 @@ use Rattle.grammar.specs.Pieces.{Item, Constant, number}
 use Rattle.grammar.specs.Grammar.{Operand, of_item, of_constant, Comparison, Condition, compared, negated, both, either}
 use Rattle.grammar.specs.Grammar.{Reading}
 use Rattle.grammar.specs.Parser.{Parsed, failed, parsed, Deep}
-use Rattle.text.specs.Tokens.{operator_number, variable_number, name_number, magnitude, code_word_number, code_operator_number, token_at}
+use Rattle.text.specs.Tokens.{letter_word, operator_number, variable_number, name_number, magnitude, code_word_number, code_operator_number, token_at}
 use Rattle.text.specs.declared.Word.{Word as CodeWord}
 use Rattle.text.specs.declared.Word.TheVariants as Code
 use Rattle.text.specs.declared.Token.{Token}
@@ -121,11 +121,11 @@ closing s c = closed_by c (after_token Code.Close (token_at s c.next))
 
 -- the words of a right side and of a comparison that the code found
 unfoldable pub right_words : CodeOperand → List ℕ
-right_words (Side.Item v m) = v ∷ m ∷ []
+right_words (Side.Item v m) = letter_word v ∷ m ∷ []
 right_words (Side.Constant minus m) = sign_word minus ∷ m ∷ []
 
 unfoldable pub compared_words : Compared → List ℕ
-compared_words x = 0 ∷ x.letter ∷ x.name ∷ code_operator_number x.operator ∷ right_words x.right
+compared_words x = 0 ∷ letter_word x.letter ∷ x.name ∷ code_operator_number x.operator ∷ right_words x.right
 
 -- a comparison from position at on, and what the code found
 pub record ComparedParsed (s : List ℕ) (at : ℕ) (r : CodeOption Compared) (c : Deep) (next : ℕ) : Type 0 where

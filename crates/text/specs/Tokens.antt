@@ -10,6 +10,7 @@ use Rattle.grammar.specs.Pieces.{constant}
 use Rattle.grammar.specs.Parser.{run, begins, fixed, first_of, Next, at_end, wrong, found, checked, next_at}
 use Rattle.text.specs.declared.Operator.{Operator as CodeOperator}
 use Rattle.text.specs.declared.Operator.TheVariants as Sign
+use Rattle.std.specs.Prelude.{Option as CodeOption, Some, None}
 use Rattle.text.specs.declared.Word.{Word as CodeWord}
 use Rattle.text.specs.declared.Word.TheVariants as Code
 use Rattle.text.specs.declared.Token.{Token}
@@ -49,6 +50,15 @@ unfoldable pub magnitude : List ℕ → ℕ
 magnitude digits = min (value_from 0 digits) (2 ^ 32)
 
 -- ---- tokens
+
+-- the code's letter of a variable, none for the blank one, and its word, which is `variable_number`
+unfoldable pub code_letter : Variable → CodeOption ℕ
+code_letter blank = None
+code_letter (letter b) = Some b
+
+unfoldable pub letter_word : CodeOption ℕ → ℕ
+letter_word None = 0
+letter_word (Some b) = b
 
 -- the code's value of a word, and its number, which is the grammar's `word_number`
 unfoldable pub code_word : Word → CodeWord
@@ -94,7 +104,7 @@ constant_token (number minus digits) next = NumberAt minus (magnitude digits) ne
 unfoldable pub token_of : Piece → ℕ → Token
 token_of (word w) next = WordAt (code_word w) next
 token_of (operator o) next = OperatorAt (code_operator o) next
-token_of (item i) next = ItemAt (variable_number i.variable) (name_number i.name) next
+token_of (item i) next = ItemAt (code_letter i.variable) (name_number i.name) next
 token_of (constant k) next = constant_token k next
 
 unfoldable pub shown : Next → Token
@@ -112,7 +122,7 @@ unfoldable pub word_token : CodeWord → List ℕ → List ℕ → ℕ → Token
 word_token w text l at =
     cond (begins text l && not (is_letter_or_digit (get_or l (length text) 0))) (WordAt w (at + length text)) NoPiece
 
-unfoldable pub item_token : ℕ → List ℕ → ℕ → Token
+unfoldable pub item_token : CodeOption ℕ → List ℕ → ℕ → Token
 item_token v l at =
     cond
     (leb 1 (run is_capital l) && (leb (run is_capital l) 12 && not (is_letter_or_digit (get_or l (run is_capital l) 0))))

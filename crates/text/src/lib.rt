@@ -9,7 +9,7 @@ ghost use Rattle.text.specs.Programs.{after_token, written, with_word, word_writ
 ghost use Rattle.text.specs.Programs.{ComparedShows, compared_words, right_words, closing, Gave, Shows, ItemsShow};
 ghost use Rattle.text.specs.Programs.{is_at_end, text_if, TextShows};
 ghost use Rattle.grammar.specs.Parser.{comparison_at, or_at, and_at, not_at, primary_at, condition_at, items_at, parse};
-ghost use Rattle.text.specs.Tokens.{name_number, magnitude, token_at, word_token, item_token, number_token, fixed_token};
+ghost use Rattle.text.specs.Tokens.{letter_word, name_number, magnitude, token_at, word_token, item_token, number_token, fixed_token};
 
 // The most bytes that a text may have.
 pub const MAX_TEXT: usize = 1024;
@@ -30,7 +30,7 @@ pub enum Word {
     Comma,
 }
 
-// The operators, in the order of their numbers.
+// The operators, in the order of their numbers in a program.
 #[derive(Clone, Copy)]
 pub enum Operator {
     Equal,
@@ -41,9 +41,10 @@ pub enum Operator {
     AtLeast,
 }
 
-// The words of a program that are no part of a comparison, and the first one of a comparison.
+// The first word of a comparison in a program.
 const COMPARISON: u64 = 0;
 
+// The words of a program that stand behind what they negate or join.
 const NOT: u64 = 1;
 
 const AND: u64 = 2;
@@ -59,8 +60,8 @@ pub enum Token {
     NoPiece,
     WordAt(Word, usize),
     OperatorAt(Operator, usize),
-    // The letter of the variable, 0 for the blank one, and the number of the name.
-    ItemAt(u8, u64, usize),
+    // The letter of the variable, none for the blank one, and the number of the name.
+    ItemAt(Option<u8>, u64, usize),
     // Whether there is a minus, and the value of the digits, 2 ^ 32 where it is more.
     NumberAt(bool, u64, usize),
 }
@@ -160,7 +161,7 @@ fn magnitude(s: &[u8], from: usize, end: usize) -> u64
 
 // The item whose name starts at a position, where one stands, of the variable with a letter.
 #[tactic(auto, using(crate::proofs::Marks::item_long))]
-fn item(s: &[u8], from: usize, letter: u8) -> Token
+fn item(s: &[u8], from: usize, letter: Option<u8>) -> Token
     requires { from ≤ length s.now }
     ensures { result ≡ item_token letter (drop from s.now) from }
 {
@@ -246,8 +247,8 @@ pub fn token_at(s: &[u8], at: usize) -> Token
         return Token::AtEnd;
     };
     match *b {
-        b'A'..=b'Z' => item(s, start, 0),
-        b'a'..=b'z' if byte_at(s, start + 1) == b'.' => item(s, start + 2, *b),
+        b'A'..=b'Z' => item(s, start, None),
+        b'a'..=b'z' if byte_at(s, start + 1) == b'.' => item(s, start + 2, Some(*b)),
         b'0'..=b'9' => constant(s, start, false),
         b'-' => constant(s, start + 1, true),
         _ => fixed(s, start),
@@ -268,8 +269,8 @@ pub struct Parse {
 // The right side of a comparison.
 #[derive(Clone, Copy)]
 pub enum Operand {
-    // The letter of the variable, 0 for the blank one, and the number of the name.
-    Item(u8, u64),
+    // The letter of the variable, none for the blank one, and the number of the name.
+    Item(Option<u8>, u64),
     // Whether there is a minus, and the magnitude.
     Constant(bool, u64),
 }
@@ -277,7 +278,7 @@ pub enum Operand {
 // A comparison: its left item by letter and number.
 #[derive(Clone, Copy)]
 pub struct Compared {
-    pub letter: u8,
+    pub letter: Option<u8>,
     pub name: u64,
     pub operator: Operator,
     pub right: Operand,
@@ -326,12 +327,22 @@ fn sign_word(minus: bool) -> u64
     if minus { 2 } else { 1 }
 }
 
+// The first word of an item.
+fn letter_word(letter: Option<u8>) -> u64
+    ensures { result ≡ letter_word letter }
+{
+    match letter {
+        Some(b) => u64::from(b),
+        None => 0,
+    }
+}
+
 // The two words of a right side.
 fn right_words(x: Operand) -> (u64, u64)
     ensures { result.0 ∷ result.1 ∷ [] ≡ right_words x }
 {
     match x {
-        Operand::Item(letter, name) => (u64::from(letter), name),
+        Operand::Item(letter, name) => (letter_word(letter), name),
         Operand::Constant(minus, magnitude) => (sign_word(minus), magnitude),
     }
 }
@@ -369,7 +380,7 @@ fn put_comparison(x: Compared, out: &mut [u64], to: usize) -> usize
 {
     let (first, second) = right_words(x.right);
     let mut at = put(out, to, COMPARISON);
-    at = put(out, at, u64::from(x.letter));
+    at = put(out, at, letter_word(x.letter));
     at = put(out, at, x.name);
     at = put(out, at, x.operator as u64);
     at = put(out, at, first);
@@ -493,7 +504,7 @@ fn items_at(s: &[u8], at: usize, out: &mut [u64]) -> Option<Items>
         let Token::ItemAt(letter, name, mid) = token_at(s, here) else {
             return None;
         };
-        let place: usize = put(out, 2 * n, u64::from(letter));
+        let place: usize = put(out, 2 * n, letter_word(letter));
         put(out, place, name);
         n += 1;
         let Some(next) = after(s, mid, Word::Comma) else {

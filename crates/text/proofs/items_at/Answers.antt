@@ -33,13 +33,13 @@ after-requires c = (mid_within _ _ _ c.loop-letter.invariant c.requires.1 _ _ _ 
 
 pub shape_of-out-in_default-after : goal.shape_of-out-in_default-after
 shape_of-out-in_default-after c =
-    more_same _ _ _ c.loop-letter.invariant c.requires.1 _ _ _ c.in-ItemAt.ensures c.from.ensures
+    more_same _ _ _ c.loop-letter.invariant c.requires.1 _ _ _ c.in-ItemAt.ensures c.letter_word.ensures
     c.put-place.ensures.out_after c.put-place.ensures.value c.put.ensures.out_after
 
 pub returns-in_default-after : goal.returns-in_default-after
 returns-in_default-after c =
     going_last _ _ _ c.loop-letter.invariant c.requires.1 _ _ _ c.in-ItemAt.ensures c.in_default-after.ensures
-    c.from.ensures c.put-place.ensures.out_after c.put-place.ensures.value c.put.ensures.out_after refl
+    c.letter_word.ensures c.put-place.ensures.out_after c.put-place.ensures.value c.put.ensures.out_after refl
 
 pub loop-letter-smaller : goal.loop-letter-smaller
 loop-letter-smaller c =
@@ -52,5 +52,5 @@ loop-letter-smaller c =
 
 pub loop-letter-preserved : goal.loop-letter-preserved
 loop-letter-preserved c =
-    going_next _ _ _ c.loop-letter.invariant c.requires.1 _ _ _ c.in-ItemAt.ensures _ c.in-Some.ensures c.from.ensures
+    going_next _ _ _ c.loop-letter.invariant c.requires.1 _ _ _ c.in-ItemAt.ensures _ c.in-Some.ensures c.letter_word.ensures
     c.put-place.ensures.out_after c.put-place.ensures.value c.put.ensures.out_after refl

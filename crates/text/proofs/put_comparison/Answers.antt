@@ -9,4 +9,4 @@ returns c =
     c.put-at.ensures.value c.put-at-2.ensures.value c.put-at-3.ensures.value c.put-at-4.ensures.value
     c.put-at-5.ensures.value c.put.ensures.value c.put-at.ensures.out_after c.put-at-2.ensures.out_after
     c.put-at-3.ensures.out_after c.put-at-4.ensures.out_after c.put-at-5.ensures.out_after c.put.ensures.out_after
-    c.from.ensures (operator_tag c.args.x.operator) c.right_words-first.ensures in record { value = r.0; out_after = r.1 }
+    c.letter_word.ensures (operator_tag c.args.x.operator) c.right_words-first.ensures in record { value = r.0; out_after = r.1 }

@@ -9,7 +9,7 @@ use Rattle.text.proofs.right_words.Goals as goal
 pub returns-in-Item : goal.returns-in-Item
 unfolding right_words
 returns-in-Item c =
-    ap (λ (n : ℕ). n ∷ c.in-Item.name ∷ []) c.from.ensures ∙ sym (ap right_words c.in-Item.is)
+    ap (λ (n : ℕ). n ∷ c.in-Item.name ∷ []) c.letter_word.ensures ∙ sym (ap right_words c.in-Item.is)
 
 pub returns-in-Constant : goal.returns-in-Constant
 unfolding right_words
