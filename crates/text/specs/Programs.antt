@@ -1,6 +1,6 @@
 -- A condition as words: a postfix program, which the code writes into words that its caller lends.
 -- In order: the words of a comparison and of a condition; words written in their place; what a parser of the code gives
--- beside what its definition gives; the steps of a parser.
+-- beside what its definition gives; the steps of a parser. `Option` is the grammar's, and `CodeOption` the code's.
 -- Assumes nothing.
 use Rattle.std.specs.Prelude.{◌≡◌, Bool, true, false, cond, List, [], ◌∷◌, ◌++◌, ℕ, ◌+◌, ◌-◌, ◌*◌, ◌≤◌, ◌<◌, max, eqb, length, take, drop}
 use Rattle.std.specs.Prelude.{Option as CodeOption, Some, None}
