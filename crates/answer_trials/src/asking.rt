@@ -1,9 +1,7 @@
 // Each line of standard input has a name, a colon and numbers in decimal, the records parted by strokes. A line that
 // begins with b has the bytes of a book; any other has a serial number, a count of cells and the bytes of a query over
 // the last book. The functions that only write promise nothing: what they write is held to the file stdout.
-ghost use Rattle.std.specs.Prelude.{◌≡◌, ◌≤◌, length, get_or};
-
-use crate::{reading, text};
+ghost use Rattle.std.specs.Prelude.{◌≡◌, ◌≤◌, length};
 
 // As many cells as the space of a trial may have.
 const CELLS: usize = 40;
@@ -12,14 +10,14 @@ const CELLS: usize = 40;
 // cell of the space.
 fn ask(rt: &impl Print, book: &[u8], query: &[u8], serial: u32, space: &mut [u32]) {
     let answer = answer::answer_bytes(book, query, serial, space);
-    text::put(rt, b':');
-    text::number(rt, answer.refusal as u64);
-    text::number(rt, answer.rows as u64);
-    text::number(rt, answer.serial as u64);
-    text::number(rt, answer.read as u64);
-    text::word(rt, b" /");
-    text::cells(rt, space);
-    text::put(rt, b'\n');
+    console::put(rt, b':');
+    console::spaced(rt, answer.refusal);
+    console::spaced(rt, answer.rows);
+    console::spaced(rt, answer.serial);
+    console::spaced(rt, answer.read);
+    console::word(rt, b" /");
+    console::list(rt, space);
+    console::put(rt, b'\n');
 }
 
 // A number as a count.
@@ -31,30 +29,17 @@ fn count(n: u32) -> usize
 
 // The query of a line over the book, in a space of cells that are 99 each.
 fn ask_numbers(rt: &impl Print, book: &[u8], numbers: &[u32]) {
-    if numbers.len() < 2 {
+    let [serial, cells, bytes @ ..] = numbers else {
         return;
-    }
-    let cells = count(numbers[1]);
+    };
+    let cells = count(*cells);
     if cells > CELLS {
         return;
     }
-    let mut space = [99u32; 40];
+    let mut space = [99u32; CELLS];
     let mut query = [0u8; 2048];
-    let n = reading::bytes_of(&numbers[2..], &mut query);
-    ask(
-        rt,
-        book,
-        reading::first(&query, n),
-        numbers[0],
-        &mut space[..cells],
-    );
-}
-
-// The first byte, or 0 where there is none.
-fn first_byte(line: &[u8]) -> u8
-    ensures { result ≡ get_or line.now 0 0 }
-{
-    if line.len() > 0 { line[0] } else { 0 }
+    let n = console::bytes_of(bytes, &mut query);
+    ask(rt, book, &query[..n], *serial, &mut space[..cells]);
 }
 
 // One line, without the line feed at its end: how many bytes the book has after it.
@@ -62,16 +47,16 @@ fn show_line(rt: &impl Print, line: &[u8], book: &mut [u8], held: usize) -> usiz
     requires { held ≤ length book.old }
     ensures { result ≤ length book.new }
 {
-    let colon = reading::find(line, 0, b':');
+    let colon = console::find(line, b':');
     let mut numbers = [0u32; 2048];
-    let n = reading::numbers_of(&line[colon..], &mut numbers);
-    let found = scheme::first(&numbers, n);
-    text::word(rt, reading::first(line, colon));
-    if first_byte(line) == b'b' {
-        text::put(rt, b'\n');
-        return reading::bytes_of(found, book);
+    let n = console::numbers_of(&line[colon..], &mut numbers);
+    let found = &numbers[..n];
+    console::word(rt, &line[..colon]);
+    if line.first() == Some(&b'b') {
+        console::put(rt, b'\n');
+        return console::bytes_of(found, book);
     }
-    ask_numbers(rt, reading::first(book, held), found);
+    ask_numbers(rt, &book[..held], found);
     held
 }
 
@@ -79,11 +64,8 @@ fn show_line(rt: &impl Print, line: &[u8], book: &mut [u8], held: usize) -> usiz
 pub fn lines(rt: &impl Print, s: &[u8]) {
     let mut book = [0u8; 2048];
     let mut held: usize = 0;
-    let mut from: usize = 0;
-    while from < s.len() {
-        let end = reading::find(s, from, b'\n');
-        held = show_line(rt, &s[from..end], &mut book, held);
-        from = end + 1;
+    for line in s.split(|b| *b == b'\n') {
+        held = show_line(rt, line, &mut book, held);
     }
 }
 
@@ -99,13 +81,13 @@ pub fn at_the_bound(rt: &impl Print) {
     out[0] = 7;
     out[3] = 10;
     let mut space = [99u32; 2];
-    text::word(rt, b"query of 65536 bytes");
+    console::word(rt, b"query of 65536 bytes");
     ask(rt, &BOOK, &out[..65536], 0, &mut space);
-    text::word(rt, b"query of 65537 bytes");
+    console::word(rt, b"query of 65537 bytes");
     ask(rt, &BOOK, &out, 4294967295, &mut space);
-    text::word(rt, b"book of 65536 bytes, kind 7 in front");
+    console::word(rt, b"book of 65536 bytes, kind 7 in front");
     ask(rt, &out[..65536], &QUERY, 0, &mut space);
-    text::word(rt, b"book of 65537 bytes, kind 7 in front");
+    console::word(rt, b"book of 65537 bytes, kind 7 in front");
     ask(rt, &out, &QUERY, 4294967295, &mut space);
 }
 
@@ -143,18 +125,15 @@ pub fn past_the_pools(rt: &impl Print) {
     book[5234] = 4;
     book[5235] = 2;
     book[5236] = 200;
-    let mut cell: u8 = 0;
-    let mut at: usize = 34;
-    while cell < 100 {
+    for cell in 0..100u8 {
+        let at = 34 + 52 * usize::from(cell);
         book[at] = 4;
         book[at + 2] = cell;
         book[at + 26] = 4;
         book[at + 27] = 1;
         book[at + 28] = cell;
-        cell += 1;
-        at += 52;
     }
     let mut space = [99u32; 3];
-    text::word(rt, b"connection that does not fit");
+    console::word(rt, b"connection that does not fit");
     ask(rt, &book, &IN_PRODUCTS, 0, &mut space);
 }

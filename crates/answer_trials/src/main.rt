@@ -3,14 +3,11 @@
 #![tactic(auto)]
 
 mod asking;
-mod input;
-mod reading;
-mod text;
 
 // The lines of standard input, then the trials that are too long for a line.
 fn main(rt: HostRuntime) {
     let mut input = [0u8; 65536];
-    let n = input::read_full(&rt, &mut input);
+    let n = console::read_full(&rt, &mut input);
     asking::lines(&rt, &input[..n]);
     asking::at_the_bound(&rt);
     asking::past_the_pools(&rt);

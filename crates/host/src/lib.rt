@@ -20,25 +20,6 @@ const SHORT: u32 = 1;
 
 const NOT_FIT: u32 = 2;
 
-// A number of a smaller type, or a length, as a cell of 64 bits.
-fn of_byte(x: u8) -> u64
-    ensures { result ≡ x }
-{
-    x as u64
-}
-
-fn of_word(x: u32) -> u64
-    ensures { result ≡ x }
-{
-    x as u64
-}
-
-fn of_size(x: usize) -> u64
-    ensures { result ≡ x }
-{
-    x as u64
-}
-
 // Answers a query over the bytes of a book. Four results: the number of the refusal or 0, the row count, the serial,
 // the bytes of the query that were read.
 pub fn vingarbu_answer(
@@ -58,10 +39,10 @@ pub fn vingarbu_answer(
         return SHORT;
     }
     let a = answer::answer_bytes(book, query, serial, space);
-    results[0] = of_byte(a.refusal);
-    results[1] = of_size(a.rows);
-    results[2] = of_word(a.serial);
-    results[3] = of_size(a.read);
+    results[0] = u64::from(a.refusal);
+    results[1] = a.rows as u64;
+    results[2] = u64::from(a.serial);
+    results[3] = a.read as u64;
     DONE
 }
 
@@ -73,7 +54,7 @@ fn report(p: Printed, results: &mut [u64]) -> u32
 {
     match p {
         Printed::Bytes(n) => {
-            results[0] = of_size(n);
+            results[0] = n as u64;
             DONE
         }
         Printed::NoRoom => SHORT,
@@ -188,7 +169,7 @@ pub fn vingarbu_sheet(
         return SHORT;
     }
     let refusal = sheets::sheet(serial, rows as usize, kinds, cells, number, out);
-    results[0] = of_byte(refusal);
+    results[0] = u64::from(refusal);
     DONE
 }
 

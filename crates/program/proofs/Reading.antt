@@ -3,8 +3,8 @@ use Rattle.std.proofs.Common.{◌≡◌, ℕ, ◌+◌, ◌-◌, ◌≤◌, List,
 use Rattle.std.proofs.lemmas.Slice.{take-put_mid_below}
 use Rattle.std.proofs.lemmas.List.{take-append-le}
 use Rattle.std.proofs.Math.Seq.{take-add}
-use Rattle.std.specs.Io.KnownBytes.{Appends, Consumes}
-use Rattle.std.proofs.KnownBytes.{Appends-trans, Consumes-trans}
+use Rattle.std.specs.Io.KnownBytes.{Appends, Consumes, Keeps}
+use Rattle.std.proofs.KnownBytes.{Appends-trans, Consumes-trans, Consumes-kept}
 use borrow.Rule.Slice.PartMut.{put_mid, post_of}
 
 -- the front of a buffer, after a call that filled m bytes behind the first n
@@ -27,3 +27,9 @@ written_behind a b c n m k xs fits p q =
     let both : take n xs ++ take m (take k (drop n xs)) ≡ take (n + m) xs =
     ap (λ l. take n xs ++ l) (take-take m k (drop n xs) fits) ∙ sym (take-add n m xs) in
     subst (Appends a c) both (Appends-trans a b c _ _ p q)
+
+-- a call that fails has moved nothing
+pub read_nothing : (a b c : Option (List ℕ)) (n k : ℕ) (xs ys : List ℕ) → n ≤ length xs
+    → Consumes a b (take n xs) → Keeps b c → Consumes a c (take n (put_mid n k xs ys))
+read_nothing a b c n k xs ys within p q =
+    subst (Consumes a c) (sym (take-put_mid_below n k xs ys n (le_refl n) within)) (Consumes-kept a b c _ p q)

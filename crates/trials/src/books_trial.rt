@@ -2,33 +2,28 @@
 // by strokes. A name with a question mark in front is a query's, one with an exclamation mark that of a query over a
 // book of no objects; over a book whose name has an `@` in front the functions for a host program are tried, too. And
 // two books at the bound of 65,536 bytes.
-ghost use Rattle.std.specs.Prelude.{◌≤◌, length};
-
-use crate::{host_trial, queries_trial, text};
+use crate::{host_trial, queries_trial};
 
 // Reads a book and writes its name, and its refusal or how many rows and maximal objects it has.
 fn show_book(rt: &impl Print, name: &[u8], bytes: &[u8]) {
     let mut directory = [0u32; 2520];
     let found = book::read(bytes, &mut directory);
-    text::word(rt, name);
+    console::word(rt, name);
     if found.refusal != 0 {
-        text::word(rt, b": refused ");
-        text::number(rt, found.refusal as u64);
+        console::word(rt, b": refused ");
+        console::number(rt, found.refusal);
     } else {
-        text::word(rt, b": rows ");
-        text::number(rt, found.rows as u64);
-        text::word(rt, b" maximal objects ");
-        text::number(rt, found.maximals as u64);
+        console::word(rt, b": rows ");
+        console::number(rt, found.rows);
+        console::word(rt, b" maximal objects ");
+        console::number(rt, found.maximals);
     }
-    text::put(rt, b'\n');
+    console::put(rt, b'\n');
 }
 
 // A book, or a query by the mark in front of its name.
 fn show(rt: &impl Print, name: &[u8], bytes: &[u8]) {
-    let mut mark: u8 = 0;
-    if name.len() > 0 {
-        mark = name[0];
-    }
+    let mark = name.first().copied().unwrap_or(0);
     if mark == b'?' {
         queries_trial::over_book(rt, name, bytes);
     } else if mark == b'!' {
@@ -41,87 +36,22 @@ fn show(rt: &impl Print, name: &[u8], bytes: &[u8]) {
     }
 }
 
-// Where byte b stands from a place on, or the end where it does not.
-fn find(s: &[u8], from: usize, b: u8) -> usize
-    requires { from ≤ length s.now }
-    ensures { (from ≤ result) × (result ≤ length s.now) }
-{
-    let mut i = from;
-    while i < s.len() {
-        if s[i] == b {
-            return i;
-        }
-        i += 1;
-    }
-    i
-}
-
-// One byte more where it is asked for, while there is room.
-fn push(out: &mut [u8], n: usize, b: u8, asked: bool) -> usize
-    requires { n ≤ length out.old }
-    ensures { result ≤ length out.new }
-{
-    if !asked {
-        return n;
-    }
-    if n < out.len() {
-        out[n] = b;
-        return n + 1;
-    }
-    n
-}
-
-// A number with one digit more, as a byte; 0 where there is no digit.
-fn with_digit(value: u8, c: u8, digit: bool) -> u8 {
-    if !digit {
-        return 0;
-    }
-    let longer = (value as u32) * 10 + (c % 16) as u32;
-    (longer % 256) as u8
-}
-
-fn is_digit(c: u8) -> bool {
-    48 <= c && c <= 57
-}
-
-// The numbers of a line as bytes; anything but a digit parts two numbers. Each number has something after it.
-fn bytes_of(s: &[u8], out: &mut [u8]) -> usize
-    ensures { result ≤ length out.new }
-{
-    let mut n: usize = 0;
-    let mut value: u8 = 0;
-    let mut before = false;
-    let mut i: usize = 0;
-    while i < s.len() {
-        let c = s[i];
-        let digit = is_digit(c);
-        n = push(out, n, value, before && !digit);
-        value = with_digit(value, c, digit);
-        before = digit;
-        i += 1;
-    }
-    n
-}
-
-// One line, from its first byte up to the line feed at its end.
+// One line, from its first byte up to the line feed at its end: the numbers behind the colon, as bytes.
 fn show_line(rt: &impl Print, line: &[u8]) {
-    let colon = find(line, 0, b':');
+    let colon = console::find(line, b':');
+    let mut numbers = [0u32; 1024];
+    let n = console::numbers_of(&line[colon..], &mut numbers);
     let mut out = [0u8; 1024];
-    let n = bytes_of(&line[colon..], &mut out);
-    if n <= 1024 {
-        show(rt, &line[..colon], &out[..n]);
-    }
+    let bytes = console::bytes_of(&numbers[..n], &mut out);
+    show(rt, &line[..colon], &out[..bytes]);
 }
 
-// Every line of the text.
+// Every line of the text that ends.
 pub fn books(rt: &impl Print, s: &[u8]) {
-    let mut from: usize = 0;
-    while from < s.len() {
-        let end = find(s, from, b'\n');
-        if end < s.len() {
-            show_line(rt, &s[from..end + 1]);
+    for line in s.split_inclusive(|b| *b == b'\n') {
+        if line.ends_with(b"\n") {
+            show_line(rt, line);
         }
-        from = end + 1;
     }
 }
 
@@ -145,10 +75,8 @@ fn byte_of(i: usize) -> u8 {
 }
 
 fn fill(out: &mut [u8]) {
-    let mut i: usize = 0;
-    while i < out.len() {
-        out[i] = byte_of(i);
-        i += 1;
+    for (i, byte) in out.iter_mut().enumerate() {
+        *byte = byte_of(i);
     }
 }
 

@@ -1,10 +1,8 @@
 // The functions for a host program: the words of each number, and each status of each function with every lent cell.
-use crate::text;
-
 // The first n bytes as text, where there are as many.
 fn front(rt: &impl Print, out: &[u8], n: usize) {
     if n <= out.len() {
-        text::word(rt, &out[..n]);
+        console::word(rt, &out[..n]);
     }
 }
 
@@ -13,70 +11,33 @@ fn words_line(rt: &impl Print, number: u32) {
     let mut out = [0u8; 32];
     let mut results = [0u64; 1];
     let status = host::vingarbu_refusal_text(number, &mut out, &mut results);
-    text::word(rt, b"words ");
-    text::number(rt, text::wide(number));
+    console::word(rt, b"words ");
+    console::number(rt, number);
     if status == 0 {
-        text::put(rt, b' ');
+        console::put(rt, b' ');
         front(rt, &out, results[0] as usize);
     } else {
-        text::word(rt, b" none ");
-        text::number(rt, text::wide(status));
+        console::word(rt, b" none ");
+        console::number(rt, status);
     }
-    text::put(rt, b'\n');
+    console::put(rt, b'\n');
 }
 
 // The words of the numbers 0 to 25.
 pub fn words(rt: &impl Print) {
-    let mut number: u32 = 0;
-    while number < 26 {
+    for number in 0..26 {
         words_line(rt, number);
-        number += 1;
-    }
-}
-
-// A number with a space before it.
-fn spaced(rt: &impl Print, n: u64) {
-    text::put(rt, b' ');
-    text::number(rt, n);
-}
-
-fn spaced_byte(rt: &impl Print, n: u8) {
-    spaced(rt, n as u64);
-}
-
-// Every number of a list.
-fn all(rt: &impl Print, list: &[u64]) {
-    let mut i: usize = 0;
-    while i < list.len() {
-        spaced(rt, list[i]);
-        i += 1;
-    }
-}
-
-fn all_cells(rt: &impl Print, list: &[u32]) {
-    let mut i: usize = 0;
-    while i < list.len() {
-        spaced(rt, text::wide(list[i]));
-        i += 1;
-    }
-}
-
-fn all_bytes(rt: &impl Print, list: &[u8]) {
-    let mut i: usize = 0;
-    while i < list.len() {
-        spaced_byte(rt, list[i]);
-        i += 1;
     }
 }
 
 // The name of a trial, the status of its call and every result.
 fn report(rt: &impl Print, name: &[u8], status: u32, results: &[u64]) {
-    text::word(rt, b"host ");
-    text::word(rt, name);
-    text::word(rt, b": status ");
-    text::number(rt, text::wide(status));
-    text::word(rt, b" results");
-    all(rt, results);
+    console::word(rt, b"host ");
+    console::word(rt, name);
+    console::word(rt, b": status ");
+    console::number(rt, status);
+    console::word(rt, b" results");
+    console::list(rt, results);
 }
 
 // The query over the book with serial 5, and every cell of the space.
@@ -90,9 +51,9 @@ fn answer_in(
 ) {
     let status = host::vingarbu_answer(book, query, 5, space, results);
     report(rt, name, status, results);
-    text::word(rt, b" space");
-    all_cells(rt, space);
-    text::put(rt, b'\n');
+    console::word(rt, b" space");
+    console::list(rt, space);
+    console::put(rt, b'\n');
 }
 
 // The same with so many cells of 99 and so many results of 77.
@@ -126,9 +87,9 @@ fn kinds_in(
 ) {
     let status = host::vingarbu_kinds(book, query, lent, results);
     report(rt, name, status, results);
-    text::word(rt, b" kinds");
-    all_bytes(rt, lent);
-    text::put(rt, b'\n');
+    console::word(rt, b" kinds");
+    console::list(rt, lent);
+    console::put(rt, b'\n');
 }
 
 // The same with so many bytes of 99 and so many results of 77.
@@ -177,9 +138,9 @@ const CELLS: [u32; 4] = [501, 7, 502, 7];
 fn print_in(rt: &impl Print, name: &[u8], kinds: &[u8], out: &mut [u8], results: &mut [u64]) {
     let status = host::vingarbu_print(6, 2, kinds, &CELLS, out, results);
     report(rt, name, status, results);
-    text::put(rt, b' ');
-    text::word(rt, out);
-    text::put(rt, b'\n');
+    console::put(rt, b' ');
+    console::word(rt, out);
+    console::put(rt, b'\n');
 }
 
 // The same with so many bytes, each a full stop, and so many results of 77.
@@ -212,9 +173,9 @@ pub fn rows(rt: &impl Print) {
 fn refusal_in(rt: &impl Print, name: &[u8], number: u32, out: &mut [u8], results: &mut [u64]) {
     let status = host::vingarbu_refusal_text(number, out, results);
     report(rt, name, status, results);
-    text::put(rt, b' ');
-    text::word(rt, out);
-    text::put(rt, b'\n');
+    console::put(rt, b' ');
+    console::word(rt, out);
+    console::put(rt, b'\n');
 }
 
 // The same with so many bytes, each a full stop, and so many results of 77.

@@ -3,10 +3,8 @@
 
 mod books_trial;
 mod host_trial;
-mod input;
 mod queries_trial;
 mod sets_trial;
-mod text;
 mod values_trial;
 
 fn main(rt: HostRuntime) {
@@ -18,7 +16,7 @@ fn main(rt: HostRuntime) {
     values_trial::matches(&rt);
     values_trial::comparisons(&rt);
     let mut input = [0u8; 65536];
-    let n = input::read_full(&rt, &mut input);
+    let n = console::read_full(&rt, &mut input);
     books_trial::books(&rt, &input[..n]);
     books_trial::full(&rt);
     queries_trial::full(&rt);

@@ -1,5 +1,4 @@
 // Queries over two small books: what reading a query gives, or the number that it is refused with.
-use crate::text;
 use query::Query;
 
 // Attributes 0 name, 1 length, 2 angle, 3 date, 4 length; objects 0 {0,1}, 1 {0,2}, 2 {3,4}; 0 determines 2. Its
@@ -16,27 +15,21 @@ const BARE: [u8; 3] = [1, 0, 0];
 // read.
 fn show_query(rt: &impl Print, q: Query) {
     if q.refusal != 0 {
-        text::word(rt, b": refused ");
-        text::number(rt, q.refusal as u64);
-        text::put(rt, b'\n');
+        console::word(rt, b": refused ");
+        console::number(rt, q.refusal);
+        console::put(rt, b'\n');
         return;
     }
     let asked = q.asked;
-    text::word(rt, b": items ");
-    text::number(rt, asked.retrieved as u64);
-    text::word(rt, b" comparisons ");
-    text::number(rt, asked.compared as u64);
-    text::word(rt, b" attributes");
-    let attributes = asked.attributes;
-    let mut v: usize = 0;
-    while v < 4 {
-        text::put(rt, b' ');
-        text::number(rt, text::wide(attributes[v]));
-        v += 1;
-    }
-    text::word(rt, b" read ");
-    text::number(rt, q.read as u64);
-    text::put(rt, b'\n');
+    console::word(rt, b": items ");
+    console::number(rt, asked.retrieved);
+    console::word(rt, b" comparisons ");
+    console::number(rt, asked.compared);
+    console::word(rt, b" attributes");
+    console::list(rt, &asked.attributes);
+    console::word(rt, b" read ");
+    console::number(rt, q.read);
+    console::put(rt, b'\n');
 }
 
 // Reads a query over a book, and writes its name and what it gives.
@@ -44,7 +37,7 @@ fn show(rt: &impl Print, name: &[u8], book: &[u8], bytes: &[u8]) {
     let mut directory = [0u32; 1];
     let found = book::read(book, &mut directory);
     let scheme = found.scheme;
-    text::word(rt, name);
+    console::word(rt, name);
     show_query(
         rt,
         query::read(

@@ -1,16 +1,14 @@
 // Both tests of containment, the arithmetic one and the plain one, on pairs of sets at the edges.
-use crate::text;
-
 // One line for a pair: whether s lies within t by arithmetic on the whole set, and attribute by attribute.
 fn within_line(rt: &impl Print, s: u32, t: u32) {
-    text::word(rt, b"within ");
-    text::number(rt, text::wide(s));
-    text::put(rt, b' ');
-    text::number(rt, text::wide(t));
-    text::put(rt, b' ');
-    text::flag(rt, sets::within(s, t));
-    text::flag(rt, sets::within_each(s, t));
-    text::put(rt, b'\n');
+    console::word(rt, b"within ");
+    console::number(rt, s);
+    console::put(rt, b' ');
+    console::number(rt, t);
+    console::put(rt, b' ');
+    console::flag(rt, sets::within(s, t));
+    console::flag(rt, sets::within_each(s, t));
+    console::put(rt, b'\n');
 }
 
 // Empty and full sets, one attribute more or less, the highest attribute.

@@ -1,18 +1,16 @@
 // The built-in comparison table, and range, order, matching and comparison of extreme cells, for each value kind.
-use crate::text;
-
 // One line for a left and a right kind: which of the operators 0 to 5 are allowed.
 fn operators_line(rt: &impl Print, left: u8, right: u8) {
-    text::word(rt, b"allowed ");
-    text::number(rt, left as u64);
-    text::put(rt, b' ');
-    text::number(rt, right as u64);
-    text::put(rt, b' ');
+    console::word(rt, b"allowed ");
+    console::number(rt, left);
+    console::put(rt, b' ');
+    console::number(rt, right);
+    console::put(rt, b' ');
     for operator in 0..6u8 {
         let table = values::built_in();
-        text::flag(rt, values::allowed(table, operator, left, right));
+        console::flag(rt, values::allowed(table, operator, left, right));
     }
-    text::put(rt, b'\n');
+    console::put(rt, b'\n');
 }
 
 // The whole table, a line for each pair of kinds.
@@ -34,13 +32,13 @@ const CELLS: [u32; 7] = [
 
 // One line for a kind: which of the extreme cells are in range.
 fn range_line(rt: &impl Print, kind: u8) {
-    text::word(rt, b"range ");
-    text::number(rt, kind as u64);
-    text::put(rt, b' ');
-    for i in 0..7usize {
-        text::flag(rt, values::in_range(kind, CELLS[i]));
+    console::word(rt, b"range ");
+    console::number(rt, kind);
+    console::put(rt, b' ');
+    for cell in CELLS {
+        console::flag(rt, values::in_range(kind, cell));
     }
-    text::put(rt, b'\n');
+    console::put(rt, b'\n');
 }
 
 // The ranges of the kinds, and of 4, which is no kind.
@@ -52,13 +50,13 @@ pub fn ranges(rt: &impl Print) {
 
 // One line for a kind: which of the extreme cells are missing.
 fn missing_line(rt: &impl Print, kind: u8) {
-    text::word(rt, b"missing ");
-    text::number(rt, kind as u64);
-    text::put(rt, b' ');
-    for i in 0..7usize {
-        text::flag(rt, values::missing(kind, CELLS[i]));
+    console::word(rt, b"missing ");
+    console::number(rt, kind);
+    console::put(rt, b' ');
+    for cell in CELLS {
+        console::flag(rt, values::missing(kind, cell));
     }
-    text::put(rt, b'\n');
+    console::put(rt, b'\n');
 }
 
 // What is missing of each kind.
@@ -71,33 +69,33 @@ pub fn gaps(rt: &impl Print) {
 // How two cells of a kind compare.
 fn order(rt: &impl Print, kind: u8, a: u32, b: u32) {
     if values::less(kind, a, b) {
-        text::put(rt, b'<');
+        console::put(rt, b'<');
         return;
     }
     if values::less(kind, b, a) {
-        text::put(rt, b'>');
+        console::put(rt, b'>');
         return;
     }
-    text::put(rt, b'=');
+    console::put(rt, b'=');
 }
 
 // One line for a kind and an extreme cell: how it compares with each of them.
 fn order_line(rt: &impl Print, kind: u8, a: u32) {
-    text::word(rt, b"order ");
-    text::number(rt, kind as u64);
-    text::put(rt, b' ');
-    text::number(rt, a as u64);
-    text::put(rt, b' ');
-    for i in 0..7usize {
-        order(rt, kind, a, CELLS[i]);
+    console::word(rt, b"order ");
+    console::number(rt, kind);
+    console::put(rt, b' ');
+    console::number(rt, a);
+    console::put(rt, b' ');
+    for cell in CELLS {
+        order(rt, kind, a, cell);
     }
-    text::put(rt, b'\n');
+    console::put(rt, b'\n');
 }
 
 // The lines of one kind.
 fn order_lines(rt: &impl Print, kind: u8) {
-    for i in 0..7usize {
-        order_line(rt, kind, CELLS[i]);
+    for cell in CELLS {
+        order_line(rt, kind, cell);
     }
 }
 
@@ -110,15 +108,15 @@ pub fn orders(rt: &impl Print) {
 
 // One line for a kind and a cell: which of the extreme cells it matches in a join.
 fn match_line(rt: &impl Print, kind: u8, a: u32) {
-    text::word(rt, b"match ");
-    text::number(rt, kind as u64);
-    text::put(rt, b' ');
-    text::number(rt, a as u64);
-    text::put(rt, b' ');
-    for i in 0..7usize {
-        text::flag(rt, values::matching(kind, a, CELLS[i]));
+    console::word(rt, b"match ");
+    console::number(rt, kind);
+    console::put(rt, b' ');
+    console::number(rt, a);
+    console::put(rt, b' ');
+    for cell in CELLS {
+        console::flag(rt, values::matching(kind, a, cell));
     }
-    text::put(rt, b'\n');
+    console::put(rt, b'\n');
 }
 
 // What the cells that are missing in some kind match, and their neighbours, for each kind.
@@ -133,19 +131,19 @@ pub fn matches(rt: &impl Print) {
 
 // One line for two cells, each of its kind: which of the operators 0 to 5 hold of them.
 fn holds_line(rt: &impl Print, left: u8, right: u8, a: u32, b: u32) {
-    text::word(rt, b"holds ");
-    text::number(rt, left as u64);
-    text::put(rt, b' ');
-    text::number(rt, right as u64);
-    text::put(rt, b' ');
-    text::number(rt, a as u64);
-    text::put(rt, b' ');
-    text::number(rt, b as u64);
-    text::put(rt, b' ');
+    console::word(rt, b"holds ");
+    console::number(rt, left);
+    console::put(rt, b' ');
+    console::number(rt, right);
+    console::put(rt, b' ');
+    console::number(rt, a);
+    console::put(rt, b' ');
+    console::number(rt, b);
+    console::put(rt, b' ');
     for operator in 0..6u8 {
-        text::flag(rt, values::holds(operator, left, right, a, b));
+        console::flag(rt, values::holds(operator, left, right, a, b));
     }
-    text::put(rt, b'\n');
+    console::put(rt, b'\n');
 }
 
 // The missing cell of a kind with itself and with a value, on both sides.

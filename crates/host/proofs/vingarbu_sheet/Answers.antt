@@ -10,4 +10,4 @@ returns-then-results-lt1 c = let r = sheet_short _ _ _ _ c.if-results-lt1.true i
 
 pub returns : goal.returns
 returns c = let r = sheet_done _ _ _ _ (omega (arith, c.if-results-lt1.false))
-    c.sheet-refusal.ensures.value c.sheet-refusal.ensures.out_after c.of_byte.ensures in record { value = r.0; out_after = r.1.0; results_after = r.1.1 }
+    c.sheet-refusal.ensures.value c.sheet-refusal.ensures.out_after c.from.ensures in record { value = r.0; out_after = r.1.0; results_after = r.1.1 }

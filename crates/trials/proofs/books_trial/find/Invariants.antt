@@ -1,9 +1,0 @@
--- The place is within the text. The measure: the bytes left.
-use Rattle.std.proofs.Common.{◌≤◌, ◌-◌, length}
-use Rattle.trials.proofs.books_trial.find.Given as goal
-
-abbrev pub invariant-loop-i : goal.invariant-loop-i
-invariant-loop-i l = (l.from ≤ l.i) × (l.i ≤ length l.s)
-
-abbrev pub decreases-loop-i : goal.decreases-loop-i
-decreases-loop-i l = length l.s - l.i
