@@ -4,11 +4,12 @@
 use mathlib.Core.Path.{◌≡◌, refl, sym, ap, ◌∙◌}
 use mathlib.Core.Logic.{⊎_elim}
 use mathlib.Core.List.{List}
-use Prim.Native.Nat.{ℕ, ◌≤◌}
+use Prim.Native.Nat.{ℕ, ◌≤◌, ◌<◌}
 use native.Mathlib.Omega.{arith}
 use borrow.Author.Tests.{eq-eqb, ne_eqb}
-use Rattle.std.proofs.Common.{None, Some}
+use Rattle.std.proofs.Common.{Option, None, Some}
 use Rattle.refusals.specs.declared.Refusal.{Refusal}
+use Rattle.refusals.specs.declared.Refusal.TheVariants.{TooManyBytes, KindNotAllowed, CutShort, TooManyOfItsKind, OutOfRange, DeclaredAlready, NotDeclared, CyclicMaximalObject, NoItem, OperatorNotAllowed, NoConnection, SpaceTooSmall, LastSerialNumber, SheetNotPrintable, NoSuchSheet, WrongComparisonTable, RemovedWithOnlyDeclared}
 use Rattle.refusals.specs.Refusals.{number_of, number_of_any, refusals, refusal_of_number}
 use Rattle.refusals.proofs.Numbers.{numbered_exactly}
 use Rattle.sets.proofs.Numbers.{eq_or_ne}
@@ -53,3 +54,24 @@ some_number r z =
     let f : refusal_of_number (number_of r) ≡ refusal_of_number 0 = ap refusal_of_number z in
     let g : Some r ≡ None = sym e ∙ f in
     cc
+
+-- it fits in a byte
+pub number_low : (o : Option Refusal) → number_of_any o < 256
+number_low None = omega arith
+number_low (Some TooManyBytes) = omega arith
+number_low (Some KindNotAllowed) = omega arith
+number_low (Some CutShort) = omega arith
+number_low (Some TooManyOfItsKind) = omega arith
+number_low (Some OutOfRange) = omega arith
+number_low (Some DeclaredAlready) = omega arith
+number_low (Some NotDeclared) = omega arith
+number_low (Some CyclicMaximalObject) = omega arith
+number_low (Some NoItem) = omega arith
+number_low (Some OperatorNotAllowed) = omega arith
+number_low (Some NoConnection) = omega arith
+number_low (Some SpaceTooSmall) = omega arith
+number_low (Some LastSerialNumber) = omega arith
+number_low (Some SheetNotPrintable) = omega arith
+number_low (Some NoSuchSheet) = omega arith
+number_low (Some WrongComparisonTable) = omega arith
+number_low (Some RemovedWithOnlyDeclared) = omega arith
