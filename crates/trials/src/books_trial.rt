@@ -48,10 +48,13 @@ fn show_line(rt: &impl Print, line: &[u8]) {
 
 // Every line of the text that ends.
 pub fn books(rt: &impl Print, s: &[u8]) {
-    for line in s.split_inclusive(|b| *b == b'\n') {
-        if line.ends_with(b"\n") {
-            show_line(rt, line);
+    let mut from: usize = 0;
+    while from < s.len() {
+        let end = from + console::find(&s[from..], b'\n');
+        if end < s.len() {
+            show_line(rt, &s[from..end + 1]);
         }
+        from = end + 1;
     }
 }
 
