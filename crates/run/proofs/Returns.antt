@@ -259,7 +259,7 @@ module _ (b q : List ℕ) (serial : ℕ) (space out : List ℕ) (long : length s
     {book : Book} (e : book ≡ book_of (read b)) (y : (read b).number ≡ 0) {maximal : List ℕ} {query : Query}
     (m : maximal ≡ take book.maximals book.maximal)
     (w : query ≡ Querying.query_of (Querying.read book.scheme maximal q)) where
-  good_here : book.refusal ≡ None
+  pub good_here : book.refusal ≡ None
   good_here = none_numbered book.refusal (number_is b e ∙ y)
 
   pub query_ends : {r : Stepped} {end : List ℕ} {refusal : Refusal} → query.refusal ≡ Some refusal
