@@ -17,7 +17,7 @@ ghost use Rattle.book.specs.Reading.{read, book_with, book_of, stored};
 use records::{BookRecord, Owner, Reading, Record};
 use refusals::Refusal;
 use scheme::{MAXIMALS, MaximalRecords, Scheme, TableOfMasks};
-use sets::{ATTRIBUTES, AttributeSet, OBJECTS, ObjectSet};
+use sets::{ATTRIBUTES, AttributeSet, Mask, OBJECTS, ObjectSet};
 
 // One value kind for each attribute.
 const KINDS: usize = ATTRIBUTES as usize;
@@ -41,7 +41,7 @@ fn some_outside(kinds: [u8; KINDS], set: AttributeSet, cells: [u32; 6]) -> bool
     ensures { result ≡ some_outside kinds set cells ATTRIBUTES }
 {
     for a in 0..KINDS {
-        if sets::has(set, a as u32) {
+        if set.has(a as u32) {
             let place = sets::rank(set, a as u32) as usize;
             if !values::in_range(kinds[a], cells[place]) {
                 return true;
@@ -56,7 +56,7 @@ fn wrong_cells(kinds: [u8; KINDS], set: AttributeSet, cells: [u32; 6]) -> bool
     requires { count ATTRIBUTES set ≤ 6 }
     ensures { result ≡ wrong_cells kinds set cells }
 {
-    if some_nonzero(cells, sets::count(set) as usize) {
+    if some_nonzero(cells, set.count() as usize) {
         return true;
     }
     some_outside(kinds, set, cells)
@@ -72,7 +72,7 @@ fn attribute_fault(s: Scheme, id: u8, kind: u8) -> Result<(), Refusal>
     if kind > 3 {
         return Err(Refusal::OutOfRange);
     }
-    if sets::has(s.attributes, numbers::wide(id)) {
+    if s.attributes.has(numbers::wide(id)) {
         return Err(Refusal::DeclaredAlready);
     }
     Ok(())
@@ -84,16 +84,16 @@ fn object_fault(s: Scheme, number: u8, set: AttributeSet) -> Result<(), Refusal>
     if number as u32 >= OBJECTS {
         return Err(Refusal::OutOfRange);
     }
-    if sets::is_empty(set) {
+    if set.is_empty() {
         return Err(Refusal::OutOfRange);
     }
-    if sets::count(set) > 6 {
+    if set.count() > 6 {
         return Err(Refusal::OutOfRange);
     }
-    if sets::has_object(s.objects, numbers::wide(number)) {
+    if s.objects.has(numbers::wide(number)) {
         return Err(Refusal::DeclaredAlready);
     }
-    if !sets::within(set, s.attributes) {
+    if !set.within(s.attributes) {
         return Err(Refusal::NotDeclared);
     }
     Ok(())
@@ -105,16 +105,16 @@ fn dependency_fault(s: Scheme, left: AttributeSet, right: AttributeSet) -> Resul
     if s.dependencies >= 64 {
         return Err(Refusal::TooManyOfItsKind);
     }
-    if sets::is_empty(left) {
+    if left.is_empty() {
         return Err(Refusal::OutOfRange);
     }
-    if sets::is_empty(right) {
+    if right.is_empty() {
         return Err(Refusal::OutOfRange);
     }
-    if !sets::within(left, s.attributes) {
+    if !left.within(s.attributes) {
         return Err(Refusal::NotDeclared);
     }
-    if !sets::within(right, s.attributes) {
+    if !right.within(s.attributes) {
         return Err(Refusal::NotDeclared);
     }
     Ok(())
@@ -127,7 +127,7 @@ fn row_fault(s: Scheme, object: u8, cells: [u32; 6]) -> Result<(), Refusal>
     if object as u32 >= OBJECTS {
         return Err(Refusal::OutOfRange);
     }
-    if !sets::has_object(s.objects, numbers::wide(object)) {
+    if !s.objects.has(numbers::wide(object)) {
         return Err(Refusal::NotDeclared);
     }
     let k = object as usize;
@@ -145,10 +145,10 @@ fn maximal_fault(s: Scheme, n: usize, set: ObjectSet) -> Result<(), Refusal>
     if n >= 8 {
         return Err(Refusal::TooManyOfItsKind);
     }
-    if sets::no_objects(set) {
+    if set.is_empty() {
         return Err(Refusal::OutOfRange);
     }
-    if !sets::objects_within(set, s.objects) {
+    if !set.within(s.objects) {
         return Err(Refusal::NotDeclared);
     }
     Ok(())
@@ -246,7 +246,7 @@ fn with_attribute(mut s: Scheme, id: u8, kind: u8) -> Scheme
 {
     let i = id as usize;
     s.kinds[i] = kind;
-    s.attributes = sets::insert(s.attributes, numbers::wide(id));
+    s.attributes = s.attributes.insert(numbers::wide(id));
     s
 }
 
@@ -256,7 +256,7 @@ fn with_object(mut s: Scheme, number: u8, set: AttributeSet) -> Scheme
 {
     let i = number as usize;
     s.sets[i] = set;
-    s.objects = sets::insert_object(s.objects, numbers::wide(number));
+    s.objects = s.objects.insert(numbers::wide(number));
     s
 }
 

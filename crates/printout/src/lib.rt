@@ -13,8 +13,8 @@ use numbers::index;
 // Room that is always enough for an answer of 8,192 cells.
 pub const ROOM: usize = 98327;
 
-// Why nothing was printed. The bytes are as they were. What was printed stands in the first bytes, and printing gives how
-// many they are.
+// Why nothing was printed; the bytes are as they were. A text that is printed stands in the first bytes, and printing
+// gives how many they are.
 #[derive(Clone, Copy, PartialEq, Eq, Debug)]
 pub enum Unprinted {
     // The text is longer than the bytes.

@@ -13,7 +13,7 @@ ghost use Rattle.query.specs.Reading.{whole_number, read, query_of};
 use records::{Owner, QueryRecord, Reading, Record};
 use refusals::Refusal;
 use scheme::Scheme;
-use sets::{ATTRIBUTES, AttributeSet, ObjectSet};
+use sets::{ATTRIBUTES, AttributeSet, Mask, ObjectSet};
 
 // An item to retrieve: a variable and an attribute.
 #[derive(Clone, Copy)]
@@ -67,7 +67,7 @@ fn item_fault(s: Scheme, q: Asked, variable: u8, attribute: u8) -> Result<(), Re
     if attribute as u32 >= ATTRIBUTES {
         return Err(Refusal::OutOfRange);
     }
-    if !sets::has(s.attributes, numbers::wide(attribute)) {
+    if !s.attributes.has(numbers::wide(attribute)) {
         return Err(Refusal::NotDeclared);
     }
     Ok(())
@@ -102,10 +102,10 @@ fn two_fault(
     if attribute2 as u32 >= ATTRIBUTES {
         return Err(Refusal::OutOfRange);
     }
-    if !sets::has(s.attributes, numbers::wide(attribute)) {
+    if !s.attributes.has(numbers::wide(attribute)) {
         return Err(Refusal::NotDeclared);
     }
-    if !sets::has(s.attributes, numbers::wide(attribute2)) {
+    if !s.attributes.has(numbers::wide(attribute2)) {
         return Err(Refusal::NotDeclared);
     }
     let a = attribute as usize;
@@ -139,7 +139,7 @@ fn constant_fault(
     if operator > 5 {
         return Err(Refusal::OutOfRange);
     }
-    if !sets::has(s.attributes, numbers::wide(attribute)) {
+    if !s.attributes.has(numbers::wide(attribute)) {
         return Err(Refusal::NotDeclared);
     }
     let a = attribute as usize;
@@ -224,7 +224,7 @@ fn with_name(mut q: Asked, variable: u8, attribute: u8) -> Asked
     ensures { result ≡ with_name q variable attribute }
 {
     let v = variable as usize;
-    q.attributes[v] = sets::insert(q.attributes[v], numbers::wide(attribute));
+    q.attributes[v] = q.attributes[v].insert(numbers::wide(attribute));
     q
 }
 
@@ -407,7 +407,7 @@ fn none_contains<'a>(sets: &'a [AttributeSet], maximal: &'a [ObjectSet], x: Attr
     ensures { result ≡ is_nil (containing sets.now maximal.now x) }
 {
     for objects in maximal {
-        if sets::within(x, scheme::attributes_of(sets, *objects)) {
+        if x.within(scheme::attributes_of(sets, *objects)) {
             return false;
         }
     }
@@ -424,7 +424,7 @@ fn some_unconnected<'a>(
     ensures { result ≡ some_unconnected sets.now maximal.now attributes }
 {
     for x in &attributes {
-        if !sets::is_empty(*x) {
+        if !x.is_empty() {
             if none_contains(sets, maximal, *x) {
                 return true;
             }

@@ -1,7 +1,7 @@
 -- The refusals and their numbers.
 -- In order: the numbers that no refusal has, each refusal and its number.
 -- Assumes nothing.
-use Rattle.std.proofs.Common.{◌≡◌, ◌≢◌, ℕ, ◌≤◌, ◌⊎◌, inl, inr, true, false, Bool, arith, refl, sym, ap, ◌∙◌, Option, None, Some}
+use Rattle.std.proofs.Common.{◌≡◌, ℕ, ◌≤◌, ◌⊎◌, inl, inr, true, false, Bool, arith, refl, sym, ap, ◌∙◌, None, Some}
 use lib.Dec.{eqb}
 use lib.ListN.{get_or-eq_default}
 use mathlib.Core.Logic.{⊎_elim}

@@ -55,7 +55,7 @@ use Rattle.reduction.proofs.kept_sets.Met.{met as reduction-kept-sets}
 use Rattle.reduction.proofs.is_acyclic.Met.{met as reduction-is-acyclic}
 use Rattle.relation.proofs.cell.Met.{met as relation-cell}
 use Rattle.scheme.proofs.first.Met.{met as scheme-first}
-use Rattle.scheme.proofs.first_object_sets.Met.{met as scheme-first-object-sets}
+use Rattle.scheme.proofs.first.Met.{met as scheme-first-object-sets}
 use Rattle.scheme.proofs.closure.Met.{met as scheme-closure}
 use Rattle.scheme.proofs.family_of.Met.{met as scheme-family-of}
 use Rattle.scheme.proofs.attributes_of.Met.{met as scheme-attributes-of}

@@ -43,7 +43,7 @@ fn show(rt: &impl Print, name: &[u8], book: &[u8], bytes: &[u8]) {
         query::read(
             bytes,
             scheme,
-            scheme::first_object_sets(&found.maximal, found.maximals),
+            scheme::first(&found.maximal, found.maximals),
         ),
     );
 }

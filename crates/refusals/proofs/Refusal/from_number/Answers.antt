@@ -1,6 +1,6 @@
 -- `refusals::Refusal::from_number` meets its contract: each number has its place in the list, and no other place has one.
 -- Assumes nothing.
-use Rattle.std.proofs.Common.{rules, arith, refl, sym}
+use Rattle.std.proofs.Common.{arith, refl, sym}
 use Rattle.refusals.specs.Refusals.{refusals, refusal_of_number}
 use Rattle.refusals.proofs.Numbers.{none_else}
 use Rattle.refusals.proofs.Refusal.from_number.Goals as goal
