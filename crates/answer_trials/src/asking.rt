@@ -11,7 +11,7 @@ const CELLS: usize = 40;
 fn ask(rt: &impl Print, book: &[u8], query: &[u8], serial: u32, space: &mut [u32]) {
     let answer = answer::answer_bytes(book, query, serial, space);
     console::put(rt, b':');
-    console::spaced(rt, answer.refusal);
+    console::spaced(rt, refusals::number(answer.refusal));
     console::spaced(rt, answer.rows);
     console::spaced(rt, answer.serial);
     console::spaced(rt, answer.read);
@@ -64,8 +64,11 @@ fn show_line(rt: &impl Print, line: &[u8], book: &mut [u8], held: usize) -> usiz
 pub fn lines(rt: &impl Print, s: &[u8]) {
     let mut book = [0u8; 2048];
     let mut held: usize = 0;
-    for line in s.split(|b| *b == b'\n') {
-        held = show_line(rt, line, &mut book, held);
+    let mut from: usize = 0;
+    while from < s.len() {
+        let end = from + console::find(&s[from..], b'\n');
+        held = show_line(rt, &s[from..end], &mut book, held);
+        from = end + 1;
     }
 }
 

@@ -9,9 +9,9 @@ fn show_book(rt: &impl Print, name: &[u8], bytes: &[u8]) {
     let mut directory = [0u32; 2520];
     let found = book::read(bytes, &mut directory);
     console::word(rt, name);
-    if found.refusal != 0 {
+    if let Some(refusal) = found.refusal {
         console::word(rt, b": refused ");
-        console::number(rt, found.refusal);
+        console::number(rt, refusal.number());
     } else {
         console::word(rt, b": rows ");
         console::number(rt, found.rows);
@@ -48,10 +48,13 @@ fn show_line(rt: &impl Print, line: &[u8]) {
 
 // Every line of the text that ends.
 pub fn books(rt: &impl Print, s: &[u8]) {
-    for line in s.split_inclusive(|b| *b == b'\n') {
-        if line.ends_with(b"\n") {
-            show_line(rt, line);
+    let mut from: usize = 0;
+    while from < s.len() {
+        let end = from + console::find(&s[from..], b'\n');
+        if end < s.len() {
+            show_line(rt, &s[from..end + 1]);
         }
+        from = end + 1;
     }
 }
 

@@ -9,10 +9,10 @@ use Rattle.program.proofs.Going.{zeros_long, opening_inside, opened_good}
 use Rattle.program.proofs.print_all.Goals as goal
 
 pub slice_bounds-out-end : goal.slice_bounds-out-end
-slice_bounds-out-end g c = omega (arith, c.opening-opened.auto.out, zeros_long 98327, opening_inside _ _ c.opening-opened.ensures.value (omega arith))
+slice_bounds-out-end g c = omega (arith, c.opening-opened.auto.out, zeros_long 98327, opening_inside _ _ c.opening-opened.ensures.value)
 
 pub slice_bounds-write_all-end : goal.slice_bounds-write_all-end
-slice_bounds-write_all-end g c = sym (length-take-le _ _ (omega (arith, c.opening-opened.auto.out, zeros_long 98327, opening_inside _ _ c.opening-opened.ensures.value (omega arith))))
+slice_bounds-write_all-end g c = sym (length-take-le _ _ (omega (arith, c.opening-opened.auto.out, zeros_long 98327, opening_inside _ _ c.opening-opened.ensures.value)))
 
 pub answer_all-requires : goal.answer_all-requires
 answer_all-requires g c = record {
