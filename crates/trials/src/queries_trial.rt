@@ -40,11 +40,7 @@ fn show(rt: &impl Print, name: &[u8], book: &[u8], bytes: &[u8]) {
     console::word(rt, name);
     show_query(
         rt,
-        query::read(
-            bytes,
-            scheme,
-            scheme::first(&found.maximal, found.maximals),
-        ),
+        query::read(bytes, scheme, scheme::first(&found.maximal, found.maximals)),
     );
 }
 
