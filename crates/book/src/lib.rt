@@ -72,7 +72,7 @@ fn attribute_fault(s: Scheme, id: u8, kind: u8) -> Result<(), Refusal>
     if kind > 3 {
         return Err(Refusal::OutOfRange);
     }
-    if s.attributes.has(numbers::wide(id)) {
+    if s.attributes.has(u32::from(id)) {
         return Err(Refusal::DeclaredAlready);
     }
     Ok(())
@@ -90,7 +90,7 @@ fn object_fault(s: Scheme, number: u8, set: AttributeSet) -> Result<(), Refusal>
     if set.count() > 6 {
         return Err(Refusal::OutOfRange);
     }
-    if s.objects.has(numbers::wide(number)) {
+    if s.objects.has(u32::from(number)) {
         return Err(Refusal::DeclaredAlready);
     }
     if !set.within(s.attributes) {
@@ -127,7 +127,7 @@ fn row_fault(s: Scheme, object: u8, cells: [u32; 6]) -> Result<(), Refusal>
     if object as u32 >= OBJECTS {
         return Err(Refusal::OutOfRange);
     }
-    if !s.objects.has(numbers::wide(object)) {
+    if !s.objects.has(u32::from(object)) {
         return Err(Refusal::NotDeclared);
     }
     let k = object as usize;
@@ -185,12 +185,8 @@ fn book_fault(s: Scheme, r: BookRecord) -> Result<(), Refusal>
             c4,
             c5,
         } => { row_fault(s, object, [c0, c1, c2, c3, c4, c5]) }
-        BookRecord::Declared { set } => maximal_fault(
-            s,
-            s.maximal.declarations,
-            numbers::long(set),
-        ),
-        BookRecord::Removed { set } => maximal_fault(s, s.maximal.removals, numbers::long(set)),
+        BookRecord::Declared { set } => maximal_fault(s, s.maximal.declarations, u64::from(set)),
+        BookRecord::Removed { set } => maximal_fault(s, s.maximal.removals, u64::from(set)),
         BookRecord::ComparisonTable {
             names,
             lengths,
@@ -246,7 +242,7 @@ fn with_attribute(mut s: Scheme, id: u8, kind: u8) -> Scheme
 {
     let i = id as usize;
     s.kinds[i] = kind;
-    s.attributes = s.attributes.insert(numbers::wide(id));
+    s.attributes = s.attributes.insert(u32::from(id));
     s
 }
 
@@ -256,7 +252,7 @@ fn with_object(mut s: Scheme, number: u8, set: AttributeSet) -> Scheme
 {
     let i = number as usize;
     s.sets[i] = set;
-    s.objects = s.objects.insert(numbers::wide(number));
+    s.objects = s.objects.insert(u32::from(number));
     s
 }
 
@@ -323,8 +319,8 @@ fn declare_record(s: Scheme, r: BookRecord) -> Scheme
         BookRecord::Object { number, set } => with_object(s, number, set),
         BookRecord::Dependency { left, right } => with_dependency(s, left, right),
         BookRecord::Row { .. } => s,
-        BookRecord::Declared { set } => with_declared(s, numbers::long(set)),
-        BookRecord::Removed { set } => with_removed(s, numbers::long(set)),
+        BookRecord::Declared { set } => with_declared(s, u64::from(set)),
+        BookRecord::Removed { set } => with_removed(s, u64::from(set)),
         BookRecord::ComparisonTable {
             names,
             lengths,

@@ -67,7 +67,7 @@ fn item_fault(s: Scheme, q: Asked, variable: u8, attribute: u8) -> Result<(), Re
     if attribute as u32 >= ATTRIBUTES {
         return Err(Refusal::OutOfRange);
     }
-    if !s.attributes.has(numbers::wide(attribute)) {
+    if !s.attributes.has(u32::from(attribute)) {
         return Err(Refusal::NotDeclared);
     }
     Ok(())
@@ -102,10 +102,10 @@ fn two_fault(
     if attribute2 as u32 >= ATTRIBUTES {
         return Err(Refusal::OutOfRange);
     }
-    if !s.attributes.has(numbers::wide(attribute)) {
+    if !s.attributes.has(u32::from(attribute)) {
         return Err(Refusal::NotDeclared);
     }
-    if !s.attributes.has(numbers::wide(attribute2)) {
+    if !s.attributes.has(u32::from(attribute2)) {
         return Err(Refusal::NotDeclared);
     }
     let a = attribute as usize;
@@ -139,7 +139,7 @@ fn constant_fault(
     if operator > 5 {
         return Err(Refusal::OutOfRange);
     }
-    if !s.attributes.has(numbers::wide(attribute)) {
+    if !s.attributes.has(u32::from(attribute)) {
         return Err(Refusal::NotDeclared);
     }
     let a = attribute as usize;
@@ -224,7 +224,7 @@ fn with_name(mut q: Asked, variable: u8, attribute: u8) -> Asked
     ensures { result ≡ with_name q variable attribute }
 {
     let v = variable as usize;
-    q.attributes[v] = q.attributes[v].insert(numbers::wide(attribute));
+    q.attributes[v] = q.attributes[v].insert(u32::from(attribute));
     q
 }
 

@@ -25,20 +25,20 @@ pub returns-then-has : goal.returns-then-has
 unfolding fault_of checks
 returns-then-has c = let filled = or_no (lt-leb OBJECTS _ c.if-number-ge-OBJECTS.false) (tested c.is_empty.ensures c.if-is_empty.false) in
     let range = or_no filled (under_counted c.count.ensures c.if-count-gt6.false) in
-    first_no _ _ range (first_yes _ (tested_member _ c.has.ensures c.wide.ensures.0
+    first_no _ _ range (first_yes _ (tested_member _ c.has.ensures c.from.ensures
     c.if-has.true))
 
 pub returns-then-not-within : goal.returns-then-not-within
 unfolding fault_of checks
 returns-then-not-within c = let filled = or_no (lt-leb OBJECTS _ c.if-number-ge-OBJECTS.false) (tested c.is_empty.ensures c.if-is_empty.false) in
     let range = or_no filled (under_counted c.count.ensures c.if-count-gt6.false) in
-    let new = tested_member _ c.has.ensures c.wide.ensures.0 c.if-has.false in
+    let new = tested_member _ c.has.ensures c.from.ensures c.if-has.false in
     first_no _ _ range (first_no _ _ new (first_yes _ (tested_not c.within.ensures c.if-not-within.true-raw)))
 
 pub returns : goal.returns
 unfolding fault_of checks
 returns c = let filled = or_no (lt-leb OBJECTS _ c.if-number-ge-OBJECTS.false) (tested c.is_empty.ensures c.if-is_empty.false) in
     let range = or_no filled (under_counted c.count.ensures c.if-count-gt6.false) in
-    let new = tested_member _ c.has.ensures c.wide.ensures.0 c.if-has.false in
+    let new = tested_member _ c.has.ensures c.from.ensures c.if-has.false in
     let known = tested_not c.within.ensures c.if-not-within.false-raw in
     first_no _ _ range (first_no _ _ new (first_no _ _ known first_none))
