@@ -9,10 +9,11 @@ use mathlib.Core.List.{List, [], ◌++◌, map}
 use Prim.Native.Nat.{ℕ, ◌+◌, ◌≤◌, ◌<◌, ◌^◌}
 use native.Mathlib.Omega.{arith}
 use Rattle.std.proofs.Common.{None, Some, Option, Ok, Err}
-use Rattle.core.specs.Option.{is_some}
-use Rattle.core.specs.Result.{result_unwrap_or}
+use Rattle.std.specs.Prelude.{is_some}
+use Rattle.std.specs.Result.{result_unwrap_or}
 use Rattle.refusals.specs.declared.Refusal.{Refusal}
-use Rattle.refusals.specs.Refusals.{number_of, number_of_any}
+use Rattle.refusals.specs.Refusals as Refusals
+use Rattle.refusals.specs.Refusals.{number_of_any}
 use Rattle.refusals.proofs.Numbers.{numbered_exactly}
 use borrow.Author.Tests.{eq-eqb, ne_eqb, lt-ltb, le-ltb, eqb-true, eqb-false}
 use lib.Dec.{eqb, ltb}
@@ -201,13 +202,13 @@ module _ (b q : List ℕ) (serial : ℕ) (space out : List ℕ) (long : length s
       ap (λ (x : Answer). number_of_any x.refusal) answer_here ∙ (refusal_numbered b q serial room).numbered
 
   pub step_ends : {r : Stepped} {end : List ℕ} {refusal : Refusal} → a.refusal ≡ Some refusal
-      → r ≡ stopped (number_of refusal) serial
-      → end ≡ query_refused (number_of refusal) ++ drop (length (query_refused (number_of refusal))) out
+      → r ≡ stopped (Refusals.number_of refusal) serial
+      → end ≡ query_refused (Refusals.number_of refusal) ++ drop (length (query_refused (Refusals.number_of refusal))) out
       → Steps b q serial space out r cells end
   step_ends {refusal = refusal} i k f =
-      let same : number_of refusal ≡ number_of b q serial = sym (ap number_of_any i) ∙ number_given in
+      let same : Refusals.number_of refusal ≡ number_of b q serial = sym (ap number_of_any i) ∙ number_given in
       let c : number_of b q serial ≡ 0 → ⊥ = λ z. some_number refusal (same ∙ z) in
-      let t : query_refused (number_of refusal) ≡ text_of b q serial =
+      let t : query_refused (Refusals.number_of refusal) ≡ text_of b q serial =
       ap query_refused same ∙ text_refused b q serial c in (
         k ∙ ap (λ (v : ℕ). stopped v serial) same ∙ step_refused_fact b q serial c,
         (s, f ∙ ap (λ (l : List ℕ). l ++ drop (length l) out) t),
@@ -263,12 +264,12 @@ module _ (b q : List ℕ) (serial : ℕ) (space out : List ℕ) (long : length s
   good_here = none_numbered book.refusal (number_is b e ∙ y)
 
   pub query_ends : {r : Stepped} {end : List ℕ} {refusal : Refusal} → query.refusal ≡ Some refusal
-      → r ≡ stopped (number_of refusal) serial
-      → end ≡ query_refused (number_of refusal) ++ drop (length (query_refused (number_of refusal))) out
+      → r ≡ stopped (Refusals.number_of refusal) serial
+      → end ≡ query_refused (Refusals.number_of refusal) ++ drop (length (query_refused (Refusals.number_of refusal))) out
       → Steps b q serial space out r space end
   unfolding refused
   query_ends {refusal = refusal} i k f =
-      let (a, s) = refused_query_law b e good_here q m w serial space {r = refused (number_of refusal) serial} i refl in
+      let (a, s) = refused_query_law b e good_here q m w serial space {r = refused (Refusals.number_of refusal) serial} i refl in
       step_ends b q serial space out long fits a s ((numbered_exactly refusal 0).of_its_number) k f
 
   module _ (x : query.refusal ≡ None) where
@@ -282,8 +283,8 @@ module _ (b q : List ℕ) (serial : ℕ) (space out : List ℕ) (long : length s
       given = answered_whole b e good_here q m w x space f g
 
       pub asked_ends : {r : Stepped} {end : List ℕ} {refusal : Refusal} → a.refusal ≡ Some refusal
-          → r ≡ stopped (number_of refusal) serial
-          → end ≡ query_refused (number_of refusal) ++ drop (length (query_refused (number_of refusal))) out
+          → r ≡ stopped (Refusals.number_of refusal) serial
+          → end ≡ query_refused (Refusals.number_of refusal) ++ drop (length (query_refused (Refusals.number_of refusal))) out
           → Steps b q serial space out r cells end
       asked_ends = step_ends b q serial space out long fits given.0 given.1
 

@@ -30,14 +30,14 @@ answer_asked-a-requires c = record {
   memory_ready = c.requires.memory_ready;
 }
 
-pub refuse-requires-in-Some-2 : goal.refuse-requires-in-Some-2
-refuse-requires-in-Some-2 c = c.requires.bytes_value.2
+pub refuse-requires-in-Some-refusal : goal.refuse-requires-in-Some-refusal
+refuse-requires-in-Some-refusal c = c.requires.bytes_value.2
 
-pub returns-in-Some-2 : goal.returns-in-Some-2
-returns-in-Some-2 c = let r = asked_ends c.args.bytes.now c.args.query.now c.args.serial c.args.space.now
+pub returns-in-Some-refusal : goal.returns-in-Some-refusal
+returns-in-Some-refusal c = let r = asked_ends c.args.bytes.now c.args.query.now c.args.serial c.args.space.now
     c.args.out.now c.requires.bytes_value.1 c.requires.bytes_value.2 c.requires.book_value.0 c.requires.bytes_value.0
     c.first-maximal.ensures c.read-q.ensures c.in_default.is c.answer_asked-a.ensures.answers_asked c.answer_asked-a.ensures.fills_asked
-    c.in-Some-2.is c.refuse-in-Some-2.ensures.value c.refuse-in-Some-2.ensures.out_after in record { value = r.0; space_after = r.1.0; out_after = r.1.1 }
+    c.in-Some-refusal.is c.refuse-in-Some-refusal.ensures.value c.refuse-in-Some-refusal.ensures.out_after in record { value = r.0; space_after = r.1.0; out_after = r.1.1 }
 
 pub kinds_of-k-requires : goal.kinds_of-k-requires
 kinds_of-k-requires c = record {
@@ -57,4 +57,4 @@ slice_bounds-print_answer-end c = sym (length-take-le c.kinds_of-k.result.items 
 )))
 
 pub returns : goal.returns
-returns c = let r = asked_goes_on c.args.bytes.now c.args.query.now c.args.serial c.args.space.now c.args.out.now c.requires.bytes_value.1 c.requires.bytes_value.2 c.requires.book_value.0 c.requires.bytes_value.0 c.first-maximal.ensures c.read-q.ensures c.in_default.is c.answer_asked-a.ensures.answers_asked c.answer_asked-a.ensures.fills_asked c.in_default-2.is (omega (arith, c.ranges.serial.fits)) c.kinds_of-k.ensures (unwrapped _ c.unwrap_or.ensures) c.print_answer-p.ensures.value c.print_answer-p.ensures.out_after in record { value = r.0; space_after = r.1.0; out_after = r.1.1 }
+returns c = let r = asked_goes_on c.args.bytes.now c.args.query.now c.args.serial c.args.space.now c.args.out.now c.requires.bytes_value.1 c.requires.bytes_value.2 c.requires.book_value.0 c.requires.bytes_value.0 c.first-maximal.ensures c.read-q.ensures c.in_default.is c.answer_asked-a.ensures.answers_asked c.answer_asked-a.ensures.fills_asked c.in_default-refusal.is (omega (arith, c.ranges.serial.fits)) c.kinds_of-k.ensures (unwrapped _ c.unwrap_or.ensures) c.print_answer-p.ensures.value c.print_answer-p.ensures.out_after in record { value = r.0; space_after = r.1.0; out_after = r.1.1 }
