@@ -4,7 +4,6 @@
 -- Assumes nothing.
 use mathlib.Core.Path.{◌≡◌, refl, sym, ap, ap₂, ◌∙◌}
 use mathlib.Core.Bool.{Bool, true, false}
-use mathlib.Core.Logic.{⊎_elim}
 use mathlib.Core.List.{List, [], ◌++◌, map}
 use Prim.Native.Nat.{ℕ, ◌+◌, ◌≤◌, ◌<◌, ◌^◌}
 use native.Mathlib.Omega.{arith}
@@ -15,10 +14,9 @@ use Rattle.refusals.specs.declared.Refusal.{Refusal}
 use Rattle.refusals.specs.Refusals as Refusals
 use Rattle.refusals.specs.Refusals.{number_of_any}
 use Rattle.refusals.proofs.Numbers.{numbered_exactly}
-use borrow.Author.Tests.{eq-eqb, ne_eqb, lt-ltb, le-ltb, eqb-true, eqb-false}
+use borrow.Author.Tests.{eq-eqb, ne_eqb, lt-ltb, le-ltb}
 use lib.Dec.{eqb, ltb}
 use lib.ListN.{length, get_or, take, drop}
-use Rattle.sets.proofs.Tests.{yes_or_no}
 use Rattle.book.specs.declared.Book.{Book}
 use Rattle.book.specs.Reading.{read, book_of}
 use Rattle.query.specs.declared.Query.{Query}
@@ -30,10 +28,10 @@ use Rattle.terms.specs.declared.Terms.{Terms}
 use Rattle.terms.specs.Terms.{TermsOf}
 use Rattle.connection.specs.declared.Answer.{Answer}
 use Rattle.connection.specs.Answers.{kind_of, item_kinds}
-use Rattle.connection.specs.Answering.{query_read, rows_answered, number, refused, answer_of, space_after}
+use Rattle.connection.specs.Answering.{query_read, rows_answered, refused, answer_of, space_after}
 use Rattle.connection.proofs.Numbered.{some_number}
-use Rattle.connection.proofs.Theorems.{answer_number_means, refusal_numbered}
-use Rattle.answer.specs.Asked.{AskedBy, Askable, AnswersAsked, FillsAsked}
+use Rattle.connection.proofs.Theorems.{refusal_numbered}
+use Rattle.answer.specs.Asked.{Askable, AnswersAsked, FillsAsked}
 use Rattle.answer.proofs.Returning.{number_is, scheme_is, query_number, asked_ready, refused_query_law, asked_by}
 use Rattle.answer.proofs.Returning.{answered_whole}
 use Rattle.printout.specs.Lines.{book_refused, query_refused}
@@ -46,7 +44,7 @@ use Rattle.run.specs.Running.{stopped, step_of}
 use Rattle.run.specs.Items.{GoodAsked, KindsOf, NoKinds, item_kinds_of, ItemKindsOf}
 use Rattle.run.proofs.Answering.{answered_prints}
 use Rattle.run.proofs.Items.{none_of_book, none_of_query, those_of_items}
-use Rattle.run.proofs.Stepping.{step_answered_fact, step_refused_fact, text_answered, text_refused, goes, below_256}
+use Rattle.run.proofs.Stepping.{step_answered_fact, step_refused_fact, text_answered, text_refused, goes}
 
 -- ---- a text that has room
 

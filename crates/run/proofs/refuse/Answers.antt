@@ -1,12 +1,11 @@
 -- `run::refuse` meets its contract: the line has room (`Returns`).
 -- Assumes nothing.
 use mathlib.Core.Path.{ap, ◌∙◌}
-use mathlib.Core.List.{List, ◌++◌}
+use mathlib.Core.List.{◌++◌}
 use Prim.Native.Nat.{ℕ}
 use native.Mathlib.Omega.{arith}
 use lib.ListN.{length, drop}
 use Rattle.printout.specs.Lines.{query_refused}
-use Rattle.run.specs.declared.Stepped.{Stepped}
 use Rattle.run.specs.Running.{stopped}
 use Rattle.run.proofs.Returns.{refuses, unwrapped}
 use Rattle.run.proofs.refuse.Goals as goal

@@ -3,7 +3,7 @@
 use Rattle.run.proofs.Returns.{unwrapped, good_here, query_ends, query_asked, asked_ends, asked_goes_on}
 use Rattle.answer.proofs.Returning.{maximal_long}
 use native.Mathlib.Omega.{arith}
-use mathlib.Core.Path.{sym, ◌∙◌}
+use mathlib.Core.Path.{sym}
 use lib.Seq.{length-take-le}
 use Rattle.run.proofs.step.Goals as goal
 
