@@ -6,9 +6,11 @@ use mathlib.Core.List.{List, [], ◌∷◌, ◌++◌}
 use Prim.Native.Nat.{ℕ, ◌≤◌, ◌<◌}
 use native.Mathlib.Omega.{arith}
 use borrow.Author.Tests.{lt-ltb, le-ltb}
-use Rattle.std.proofs.Common.{Ok, Err}
+use Rattle.std.proofs.Common.{Result, Ok, Err}
+use Rattle.std.specs.Result.{result_err}
+use Rattle.refusals.specs.declared.Refusal.{Refusal}
 use lib.ListN.{length, set, drop}
-use Rattle.refusals.specs.Refusals.{number_of_any}
+use Rattle.refusals.specs.Refusals.{number_of_any, number_of_check}
 use Rattle.connection.specs.declared.Answer.{Answer}
 use Rattle.connection.specs.Answering.{answer_of, space_after}
 use Rattle.printout.specs.declared.Unprinted.TheVariants.{NoRoom, NotFit}
@@ -115,6 +117,11 @@ module _ (p : Printed) (after before results : List ℕ) where
       )
 
 -- ---- a sheet
+
+-- the number of what a sheet was refused with
+pub check_number : {A : Type 0} (s : Result A Refusal) → number_of_any (result_err s) ≡ number_of_check s
+check_number (Ok x) = refl
+check_number (Err r) = refl
 
 -- what a call for a sheet of number n gives back
 abbrev Sheets : ℕ → List ℕ → List ℕ → List ℕ → ℕ → List ℕ → List ℕ → Type 0
