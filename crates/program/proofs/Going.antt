@@ -7,10 +7,6 @@ use mathlib.Core.List.{List}
 use Prim.Native.Nat.{ℕ, ◌+◌, ◌-◌, ◌≤◌, ◌<◌, ◌^◌}
 use native.Mathlib.Omega.{arith}
 use lib.ListN.{length, take, drop, replicate, length-take, length-drop, length-replicate}
-use Rattle.std.proofs.Common.{Option}
-use Rattle.refusals.specs.declared.Refusal.{Refusal}
-use Rattle.refusals.specs.Refusals.{number_of_any}
-use Rattle.connection.proofs.Numbered.{number_low}
 use Rattle.run.specs.declared.Stepped.{Stepped}
 use Rattle.run.specs.Running.{step_of, opening_of}
 use Rattle.run.specs.Statements.{StepInside}
@@ -71,11 +67,9 @@ module _ (b input : List ℕ) (n at serial : ℕ) {r : Stepped} (h : serial < 2 
 
 -- ---- the opening
 
-module _ (refusal : Option Refusal) (input : ℕ) {r : Stepped} (e : r ≡ opening_of (number_of_any refusal) input) where
-  pub opening_inside : r.printed ≤ 98327
-  opening_inside =
-      subst (λ (s : Stepped). s.printed ≤ 98327) (sym e)
-      ((Run.opening_inside (number_of_any refusal) input).printed (number_low refusal))
+module _ (refusal input : ℕ) {r : Stepped} (e : r ≡ opening_of refusal input) where
+  pub opening_inside : refusal < 256 → r.printed ≤ 98327
+  opening_inside h = subst (λ (s : Stepped). s.printed ≤ 98327) (sym e) ((Run.opening_inside refusal input).printed h)
 
-  pub opened_good : r.more ≡ true → number_of_any refusal ≡ 0
-  opened_good m = (Run.opening_inside (number_of_any refusal) input).good (sym (ap (λ (s : Stepped). s.more) e) ∙ m)
+  pub opened_good : r.more ≡ true → refusal ≡ 0
+  opened_good m = (Run.opening_inside refusal input).good (sym (ap (λ (s : Stepped). s.more) e) ∙ m)
