@@ -13,6 +13,7 @@ use lib.ListN.{length, set, drop}
 use Rattle.refusals.specs.Refusals.{number_of_any, number_of_check}
 use Rattle.connection.specs.declared.Answer.{Answer}
 use Rattle.connection.specs.Answering.{answer_of, space_after}
+use Rattle.printout.specs.declared.Unprinted.{Unprinted}
 use Rattle.printout.specs.declared.Unprinted.TheVariants.{NoRoom, NotFit}
 use Rattle.printout.specs.Printing.{Printed}
 use Rattle.host.specs.Results.{short, done, not_fit, answer_cells, answer_status, answer_results, answer_space}
@@ -82,13 +83,12 @@ bytes_here results {n = n} {m} q h e = (
   one_written results m h ∙ ap (λ (i : ℕ). i ∷ drop 1 results) e ∙ sym (ap (λ (x : Printed). give_results x results) q),
 )
 
-pub told_short : (results : List ℕ) {p : Printed} → p ≡ Err NoRoom → Reports p results short results
-unfolding give_status give_results
-told_short results q = (sym (ap give_status q), sym (ap (λ (x : Printed). give_results x results) q))
-
-pub told_not_fit : (results : List ℕ) {p : Printed} → p ≡ Err NotFit → Reports p results not_fit results
-unfolding give_status give_results
-told_not_fit results q = (sym (ap give_status q), sym (ap (λ (x : Printed). give_results x results) q))
+-- and none where there are none
+pub told_nothing : (results : List ℕ) {p : Printed} {reason : Unprinted} {status : ℕ} → p ≡ Err reason
+    → status ≡ give_status (Err reason) → Reports p results status results
+unfolding give_results
+told_nothing results {reason = NoRoom} q e = (e ∙ sym (ap give_status q), sym (ap (λ (x : Printed). give_results x results) q))
+told_nothing results {reason = NotFit} q e = (e ∙ sym (ap give_status q), sym (ap (λ (x : Printed). give_results x results) q))
 
 -- what a call that prints gives back
 abbrev Gives : Printed → List ℕ → List ℕ → List ℕ → ℕ → List ℕ → List ℕ → Type 0
