@@ -6,11 +6,14 @@ use mathlib.Core.List.{List, [], ◌∷◌, ◌++◌}
 use Prim.Native.Nat.{ℕ, ◌≤◌, ◌<◌}
 use native.Mathlib.Omega.{arith}
 use borrow.Author.Tests.{lt-ltb, le-ltb}
-use Rattle.std.proofs.Common.{Ok, Err}
+use Rattle.std.proofs.Common.{Result, Ok, Err}
+use Rattle.std.specs.Result.{result_err}
+use Rattle.refusals.specs.declared.Refusal.{Refusal}
 use lib.ListN.{length, set, drop}
-use Rattle.refusals.specs.Refusals.{number_of_any}
+use Rattle.refusals.specs.Refusals.{number_of_any, number_of_check}
 use Rattle.connection.specs.declared.Answer.{Answer}
 use Rattle.connection.specs.Answering.{answer_of, space_after}
+use Rattle.printout.specs.declared.Unprinted.{Unprinted}
 use Rattle.printout.specs.declared.Unprinted.TheVariants.{NoRoom, NotFit}
 use Rattle.printout.specs.Printing.{Printed}
 use Rattle.host.specs.Results.{short, done, not_fit, answer_cells, answer_status, answer_results, answer_space}
@@ -80,13 +83,12 @@ bytes_here results {n = n} {m} q h e = (
   one_written results m h ∙ ap (λ (i : ℕ). i ∷ drop 1 results) e ∙ sym (ap (λ (x : Printed). give_results x results) q),
 )
 
-pub told_short : (results : List ℕ) {p : Printed} → p ≡ Err NoRoom → Reports p results short results
-unfolding give_status give_results
-told_short results q = (sym (ap give_status q), sym (ap (λ (x : Printed). give_results x results) q))
-
-pub told_not_fit : (results : List ℕ) {p : Printed} → p ≡ Err NotFit → Reports p results not_fit results
-unfolding give_status give_results
-told_not_fit results q = (sym (ap give_status q), sym (ap (λ (x : Printed). give_results x results) q))
+-- and none where there are none
+pub told_nothing : (results : List ℕ) {p : Printed} {reason : Unprinted} {status : ℕ} → p ≡ Err reason
+    → status ≡ give_status (Err reason) → Reports p results status results
+unfolding give_results
+told_nothing results {reason = NoRoom} q e = (e ∙ sym (ap give_status q), sym (ap (λ (x : Printed). give_results x results) q))
+told_nothing results {reason = NotFit} q e = (e ∙ sym (ap give_status q), sym (ap (λ (x : Printed). give_results x results) q))
 
 -- what a call that prints gives back
 abbrev Gives : Printed → List ℕ → List ℕ → List ℕ → ℕ → List ℕ → List ℕ → Type 0
@@ -115,6 +117,11 @@ module _ (p : Printed) (after before results : List ℕ) where
       )
 
 -- ---- a sheet
+
+-- the number of what a sheet was refused with
+pub check_number : {A : Type 0} (s : Result A Refusal) → number_of_any (result_err s) ≡ number_of_check s
+check_number (Ok x) = refl
+check_number (Err r) = refl
 
 -- what a call for a sheet of number n gives back
 abbrev Sheets : ℕ → List ℕ → List ℕ → List ℕ → ℕ → List ℕ → List ℕ → Type 0

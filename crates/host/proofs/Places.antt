@@ -8,7 +8,7 @@ use mathlib.Core.List.{List, [], ◌∷◌, ◌++◌}
 use Prim.Native.Nat.{ℕ, ◌+◌, ◌-◌, ◌≤◌, ◌<◌}
 use native.Mathlib.Omega.{arith}
 use borrow.Author.Tests.{lt-ltb, le-ltb, eq-eqb, ne_eqb}
-use Rattle.std.proofs.Common.{Ok, Err}
+use Rattle.std.proofs.Common.{None, Ok, Err}
 use lib.ListN.{length, get_or, drop}
 use lib.Seq.{length-take-le, length_front, get_or-append-add, get_or-drop}
 use Rattle.sets.proofs.Tests.{yes_or_no}
@@ -79,7 +79,12 @@ module _ (b q : List ℕ) (serial : ℕ) (space results : List ℕ) where
     pub answer_given : number b q serial (length space) ≡ 0
         → FourResults given 0 (length (rows_answered b q)) (serial + 1) (query_read (read b) q).read
     unfolding answer_of
-    answer_given z = four_given (rw (answer_of, eq-eqb (number b q serial (length space)) 0 z))
+    answer_given z = four_given {a = record {
+      refusal = None;
+      rows = length (rows_answered b q);
+      serial = serial + 1;
+      read = (query_read (read b) q).read;
+    }} (rw (answer_of, eq-eqb (number b q serial (length space)) 0 z))
 
   none_given : length results < 4 → given ≡ results
   unfolding answer_results

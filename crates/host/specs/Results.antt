@@ -6,6 +6,7 @@ use Rattle.std.specs.Prelude.{Ok, Err, Bool, true, false, List, [], ◌∷◌, �
 use Rattle.refusals.specs.Refusals.{number_of_any}
 use Rattle.connection.specs.declared.Answer.{Answer}
 use Rattle.connection.specs.Answering.{answer_of, space_after}
+use Rattle.printout.specs.Printing.{Printed}
 use Rattle.printout.specs.declared.Unprinted.TheVariants.{NoRoom, NotFit}
 
 -- ---- statuses: with any but the first nothing is changed

@@ -3,7 +3,7 @@
 // says that nothing was changed.
 #![tactic(auto)]
 
-ghost use Rattle.std.specs.Prelude.{◌≡◌, ◌≤◌, length};
+ghost use Rattle.std.specs.Prelude.{◌≡◌, ◌≤◌, Err, length};
 ghost use Rattle.refusals.specs.Refusals.{number_of};
 ghost use Rattle.host.specs.Results.{answer_status, answer_results, answer_space, give_status, give_results};
 ghost use Rattle.host.specs.Results.{given_status, given_results, given_bytes, sheet_status, sheet_results};
@@ -48,6 +48,17 @@ pub fn vingarbu_answer(
     DONE
 }
 
+// Why no bytes were given, as a status.
+#[tactic(auto, unfolding(crate::specs::Results::give_status))]
+fn status_of(reason: Unprinted) -> u32
+    ensures { result ≡ give_status (Err reason) }
+{
+    match reason {
+        Unprinted::NoRoom => SHORT,
+        Unprinted::NotFit => NOT_FIT,
+    }
+}
+
 // What was given as bytes, as a status; how many bytes they are is the result.
 fn report(p: Result<usize, Unprinted>, results: &mut [u64]) -> u32
     requires { 1 ≤ length results.old }
@@ -59,8 +70,7 @@ fn report(p: Result<usize, Unprinted>, results: &mut [u64]) -> u32
             results[0] = n as u64;
             DONE
         }
-        Err(Unprinted::NoRoom) => SHORT,
-        Err(Unprinted::NotFit) => NOT_FIT,
+        Err(reason) => status_of(reason),
     }
 }
 
