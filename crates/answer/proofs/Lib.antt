@@ -1,5 +1,4 @@
 -- The laws of `answer`. Assumes nothing.
-pub mod Clearing
 pub mod Asked
 pub mod Ending
 pub mod Returning

@@ -11,7 +11,7 @@ const CELLS: usize = 40;
 fn ask(rt: &impl Print, book: &[u8], query: &[u8], serial: u32, space: &mut [u32]) {
     let answer = answer::answer_bytes(book, query, serial, space);
     console::put(rt, b':');
-    console::spaced(rt, answer.refusal);
+    console::spaced(rt, refusals::number(answer.refusal));
     console::spaced(rt, answer.rows);
     console::spaced(rt, answer.serial);
     console::spaced(rt, answer.read);

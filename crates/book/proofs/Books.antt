@@ -3,7 +3,7 @@
 -- Assumes nothing.
 use mathlib.Core.Path.{◌≡◌, refl, sym, ap, ap₂, ◌∙◌}
 use mathlib.Core.Bool.{Bool, true, false, ◌||◌}
-use mathlib.Core.Logic.{◌⊎◌, ⊎_elim, inl, inr}
+use mathlib.Core.Logic.{⊎_elim, inl, inr}
 use mathlib.Core.List.{List, []}
 use Prim.Native.Nat.{ℕ, ◌≤◌, ◌<◌}
 use native.Mathlib.Omega.{arith}
@@ -12,6 +12,10 @@ use lib.Dec.{eqb}
 use lib.ListN.{length}
 use Rattle.sets.proofs.Tests.{or_no}
 use Rattle.sets.proofs.Numbers.{eq_or_ne}
+use Rattle.std.specs.Prelude.{Option, None, Some}
+use Rattle.refusals.specs.declared.Refusal.{Refusal}
+use Rattle.refusals.specs.Refusals.{number_of, number_of_any}
+use Rattle.records.proofs.Refused.{refused_by, number_not_zero}
 use Rattle.scheme.specs.declared.Scheme.{Scheme}
 use Rattle.scheme.specs.declared.MaximalList.{MaximalList}
 use Rattle.scheme.specs.OfScheme.{maximal_of, both_of, cyclic_of, maximal_list_of}
@@ -27,21 +31,21 @@ use Rattle.book.proofs.Outcomes.{after_end, after_fault}
 
 -- ---- a book whose records were all accepted
 
-pub finished_book : (s : Scheme) (rows : ℕ) {m : MaximalList} {n : ℕ} → m ≡ maximal_list_of s
-    → n ≡ last_number m.both m.cyclic
+pub finished_book : (s : Scheme) (rows : ℕ) {m : MaximalList} (n : Option Refusal) → m ≡ maximal_list_of s
+    → number_of_any n ≡ last_number m.both m.cyclic
     → ◌≡◌ {A = Book} (record { refusal = n; rows = rows; scheme = s; maximal = m.sets; maximals = m.count })
     (book_with (last_fault s) rows s (maximal_of s))
 unfolding maximal_list_of last_fault book_with
-finished_book s rows e q =
+finished_book s rows n e q =
     ap₂ {C = Book}
-    (λ (k : ℕ) (x : MaximalList). record {
+    (λ (k : Option Refusal) (x : MaximalList). record {
       refusal = k;
       rows = rows;
       scheme = s;
       maximal = x.sets;
       maximals = x.count;
     })
-    (q ∙ ap (λ (x : MaximalList). last_number x.both x.cyclic) e) e
+    (refused_by n (q ∙ ap (λ (x : MaximalList). last_number x.both x.cyclic) e)) e
 
 -- ---- the maximal objects by the number
 
@@ -82,7 +86,8 @@ after_rows o =
     ⊎_elim (λ z. ap (λ (x : Outcome). x.rows) (after_end o z)) (λ d. ap (λ (x : Outcome). x.rows) (after_fault o d))
     (eq_or_ne o.number 0)
 
-module _ (b : List ℕ) {w : Walked} (h : length b ≤ 65536) (e : w ≡ walked_of (records b)) where
+module _ (b : List ℕ) {w : Walked} (h : length b ≤ 65536) (e : w ≡ walked_of (records b))
+    (known : number_of_any w.refusal ≡ (records b).number) where
   pub directory_within : {cells' : List ℕ} (cells : List ℕ) → cells' ≡ stored (records b).rows cells
       → cells' ≡ stored (read b).rows cells
   directory_within cells q =
@@ -90,25 +95,25 @@ module _ (b : List ℕ) {w : Walked} (h : length b ≤ 65536) (e : w ≡ walked_
       ∙ ap (λ (rows : List ℕ). stored rows cells)
       (sym (ap (λ (o : Outcome). o.rows) (read_within b h) ∙ after_rows (records b)))
 
-  number_is : w.refusal ≡ (records b).number
-  unfolding walked_of
-  number_is = ap (λ (x : Walked). x.refusal) e
-
-  pub book_stopped : {r : Book} → (w.refusal ≡ 0 → ⊥) → r ≡ book_with w.refusal w.rows w.scheme []
-      → r ≡ book_of (read b)
+  pub book_stopped : {r : Book} (n : Refusal) → w.refusal ≡ Some n
+      → r ≡ book_with (number_of n) w.rows w.scheme [] → r ≡ book_of (read b)
   unfolding walked_of book_of
-  book_stopped d q =
+  book_stopped n is q =
       let o = records b in
-      let some = ⊎_elim {B = RecordNumber o.number} (λ z. absurd (d (number_is ∙ z))) (λ p. p) (records_number b) in
-      q ∙ ap (λ (x : Walked). book_with x.refusal x.rows x.scheme []) e
+      let number_is : number_of n ≡ o.number = ap number_of_any (sym is) ∙ known in
+      let d : o.number ≡ 0 → ⊥ = λ z. number_not_zero n (number_is ∙ z) in
+      let some = ⊎_elim {B = RecordNumber o.number} (λ z. absurd (d z)) (λ p. p) (records_number b) in
+      q ∙ ap (λ (x : Walked). book_with (number_of n) x.rows x.scheme []) e
+      ∙ ap (λ (k : ℕ). book_with k (length o.rows) o.scheme []) number_is
       ∙ ap (book_with o.number (length o.rows) o.scheme) (sym (maximals_none o some))
-      ∙ ap book_of (sym (read_within b h ∙ after_fault o (λ z. d (number_is ∙ z))))
+      ∙ ap book_of (sym (read_within b h ∙ after_fault o d))
 
-  pub book_finished : {r : Book} → w.refusal ≡ 0
+  pub book_finished : {r : Book} → w.refusal ≡ None
       → r ≡ book_with (last_fault w.scheme) w.rows w.scheme (maximal_of w.scheme) → r ≡ book_of (read b)
   unfolding walked_of book_of
-  book_finished z q =
+  book_finished none q =
       let o = records b in
+      let zero : o.number ≡ 0 = sym known ∙ ap number_of_any none in
       q ∙ ap (λ (x : Walked). book_with (last_fault x.scheme) x.rows x.scheme (maximal_of x.scheme)) e
       ∙ ap (book_with (last_fault o.scheme) (length o.rows) o.scheme) (sym (maximals_last o.scheme o.rows))
-      ∙ ap book_of (sym (read_within b h ∙ after_end o (sym number_is ∙ z)))
+      ∙ ap book_of (sym (read_within b h ∙ after_end o zero))

@@ -1,6 +1,5 @@
 -- What a record without a fault has, by its kind, and records by their variant.
--- In order: what a fault of 0 says, what a record is by its variant, rows, bodies cut short, where no whole record
--- stands.
+-- In order: what a fault of 0 says, what a record is by its variant, rows.
 -- Assumes nothing.
 use mathlib.Core.Path.{◌≡◌, refl, ap, sym, ◌∙◌}
 use mathlib.Core.Bool.{Bool, true, false, not, ◌||◌}
@@ -10,16 +9,10 @@ use native.Mathlib.Omega.{arith}
 use borrow.Author.Tests.{eqb-true, ne_eqb, ltb-false, leb-false, not-false}
 use lib.Dec.{ltb, leb}
 use lib.ListN.{get_or}
-use types.Run.{OneOf, miss}
-use denote.Enum.Declared.{tag_of}
 use Rattle.values.specs.Table.{TableRules, keeps_rules}
 use Rattle.values.proofs.Table.{rules_tested}
 use Rattle.records.specs.Checks.{first_of}
-use Rattle.records.specs.Records.{of_book, kind_of, masks_of}
-use Rattle.records.specs.Walking.{short_number}
-use Rattle.records.specs.contracts.Reading as ReadingType
-use Rattle.records.specs.declared.Reading.{Reading}
-use Rattle.records.specs.declared.Reading.TheVariants.{Nothing, Unknown, Short, Found}
+use Rattle.records.specs.Records.{kind_of, masks_of}
 use Rattle.records.specs.declared.Record.{Record}
 use Rattle.records.specs.declared.BookRecord.{BookRecord}
 use Rattle.records.specs.declared.Record.TheVariants.{OfBook}
@@ -34,7 +27,7 @@ use Rattle.sets.proofs.Tests.{no_or}
 use Rattle.sets.proofs.Sets.{yes_has, no_has, yes_within, no_is_empty}
 use Rattle.book.specs.Faults.{wrong_cells, row_checks, maximal_checks, checks, fault_of}
 use Rattle.book.specs.Declaring.{declare, with_maximal, with_declared, with_removed}
-use Rattle.book.specs.Reading.{is_row, with_row, stop_number}
+use Rattle.book.specs.Reading.{is_row, with_row}
 use Rattle.book.specs.WellFormed.{SomeAttributes}
 
 -- ---- what a fault of 0 says of a record, by its kind
@@ -218,22 +211,3 @@ row_declares_nothing s r y = by (row_or_not r) (eqb-true (kind_of r) 4 y)
     by : {r : Record} → RowOrNot r → kind_of r ≡ 4 → s ≡ declare s r
     by (a_row object c0 c1 c2 c3 c4 c5) e = refl
     by (another_kind n) e = absurd (n e)
-
--- ---- bodies cut short
-
-pub short_yes : (k : ℕ) → of_book k ≡ true → 3 ≡ short_number of_book k
-unfolding short_number
-short_yes k y = ap (λ (b : Bool). elim b [ true ↦ 3 | false ↦ 2 ]) (sym y)
-
-pub short_no : (k : ℕ) → of_book k ≡ false → 2 ≡ short_number of_book k
-unfolding short_number
-short_no k n = ap (λ (b : Bool). elim b [ true ↦ 3 | false ↦ 2 ]) (sym n)
-
--- ---- where no whole record stands
-
-pub stops_at_end : (x : Reading) → (x ≡ Unknown → ⊥) → ((kind : ℕ) → x ≡ Short kind → ⊥) → 0 ≡ stop_number x
-unfolding stop_number
-stops_at_end Nothing u s = refl
-stops_at_end Unknown u s = absurd (u refl)
-stops_at_end (Short k) u s = absurd (s k refl)
-stops_at_end (Found r next) u s = refl

@@ -1,7 +1,7 @@
 -- The theorems of `Statements`, in its order.
 -- Assumes nothing.
 use mathlib.Core.Path.{◌≡◌, refl, sym, subst}
-use mathlib.Core.Logic.{inl, inr, ⊎_elim}
+use mathlib.Core.Logic.{◌⊎◌, inl, inr, ⊎_elim}
 use mathlib.Core.Bool.{false}
 use mathlib.Core.List.{List, []}
 use Prim.Native.Nat.{ℕ, ◌≤◌, ◌<◌}
@@ -21,12 +21,13 @@ use Rattle.scheme.specs.Growing.{attributes_of}
 use Rattle.scheme.specs.OfScheme.{dependencies_of, declared_of, removed_of, maximal_of, cyclic_of}
 use Rattle.scheme.proofs.Theorems.{object_joins_by_the_rule, grown_is_the_same_in_every_order, computed_is_the_list}
 use Rattle.scheme.proofs.Theorems.{maximal_objects_are_the_list, cyclic_is_a_fault}
-use Rattle.book.specs.Reading.{Outcome, read}
+use Rattle.book.specs.Reading.{Outcome, read, book_with, book_of}
+use Rattle.records.proofs.Refused.{HasRefusal, small_has, other_has}
 use Rattle.book.specs.Accepting.{Accepted, AtLast, good}
 use Rattle.book.specs.Conditions.{conditions}
 use Rattle.book.specs.Faults.{checks, fault_of}
 use Rattle.book.specs.Declaring.{declare}
-use Rattle.book.specs.Statements.{FaultMeans, KindFifteen, ReadExactly, StopsWith, NumberMeans, NineMeans, AcceptedSay}
+use Rattle.book.specs.Statements.{FaultMeans, KindFifteen, ReadExactly, StopsWith, NumberMeans, RefusalNumbered, NineMeans, AcceptedSay}
 use Rattle.book.specs.Statements.{RowInBytes}
 use Rattle.book.specs.Statements.{SchemeWellFormed, MaximalObjectsRead, TablesOfBook, MaximalObjectsOfBook}
 use Rattle.book.specs.TablesOf.{tables_of}
@@ -86,6 +87,16 @@ number_means b = record {
     λ p. whole_number b 9 p.0 p.1,
   );
 }
+
+pub refusal_numbered : (b : List ℕ) → RefusalNumbered b
+unfolding book_of book_with
+refusal_numbered b = record { numbered = has (number_one_of b) }
+  where
+    has : {n : ℕ} → (n ≤ 7) ⊎ ((n ≡ 9) ⊎ ((n ≡ 20) ⊎ (n ≡ 21))) → HasRefusal n
+    has {n} (inl h) = small_has n (omega arith)
+    has (inr (inl e)) = subst HasRefusal (sym e) other_has.0
+    has (inr (inr (inl e))) = subst HasRefusal (sym e) other_has.4
+    has (inr (inr (inr e))) = subst HasRefusal (sym e) other_has.5
 
 -- ---- a cycle
 

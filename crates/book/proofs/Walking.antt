@@ -8,12 +8,13 @@ use mathlib.Core.List.{List, [], ◌∷◌, ◌++◌}
 use Prim.Native.Nat.{ℕ, ◌+◌, ◌≤◌, ◌<◌}
 use native.Mathlib.Omega.{arith}
 use lib.ListN.{length, set, length-append}
-use types.Run.{OneOf, miss}
-use denote.Enum.Declared.{tag_of}
-use Rattle.records.specs.contracts.Reading.{the_type}
+use Rattle.std.specs.Prelude.{Option, Some}
+use Rattle.refusals.specs.declared.Refusal.{Refusal}
+use Rattle.refusals.specs.Refusals.{number_of, number_of_any}
 use Rattle.records.proofs.Walking.{accepted_inside, stops_nothing, stops_unknown, stops_short, stops_faulty}
 use Rattle.records.specs.Reader.{read_at}
-use Rattle.records.specs.Walking.{Stop, walk, none, one}
+use Rattle.records.specs.Walking.{Stop, unread_number, walk, none, one}
+use Rattle.records.proofs.Refused.{refused_by, number_not_zero}
 use Rattle.records.specs.declared.Record.{Record}
 use Rattle.records.specs.declared.Reading.{Reading}
 use Rattle.records.specs.declared.Reading.TheVariants.{Nothing, Unknown, Short, Found}
@@ -43,6 +44,12 @@ walking_start b dir e = record {
   counted = refl;
   kept = sym (stored_none dir);
 }
+
+-- what the code has at a way out, with a refusal or none
+pub record WalkedOut (b dir₀ dir : List ℕ) (s : Scheme) (rows : ℕ) (n : Option Refusal) : Type 0 where
+  pub value : ◌≡◌ {A = Walked} (record { refusal = n; rows = rows; scheme = s }) (walked_of (records b))
+  pub numbered : number_of_any n ≡ (records b).number
+  pub directory_after : dir ≡ stored (records b).rows dir₀
 
 module _ {b dir₀ dir : List ℕ} {s : Scheme} {rows at : ℕ} (v : Walking b dir₀ dir s rows at) where
   -- ---- what the code needs of it
@@ -95,35 +102,34 @@ module _ {b dir₀ dir : List ℕ} {s : Scheme} {rows at : ℕ} (v : Walking b d
         walking_next dir rows (v.counted ∙ ap length (sym (with_row_no v.places r at n)))
         (v.kept ∙ ap (λ (p : List ℕ). stored p dir₀) (sym (with_row_no v.places r at n)))
 
-  -- ---- the ways out: the number n, with the scheme and the rows of the records passed
+  -- ---- the ways out: a refusal or none, with the scheme and the rows of the records passed
 
-  walking_out : {n m : ℕ}
+  walking_out : (n : Option Refusal) {m : ℕ}
       → walk book_rules b nothing_held ≡ record { number = m; state = record { scheme = s; rows = v.places }; at = at }
-      → n ≡ m
-      → (◌≡◌ {A = Walked} (record { refusal = n; rows = rows; scheme = s }) (walked_of (records b)))
-      × (dir ≡ stored (records b).rows dir₀)
+      → number_of_any n ≡ m → WalkedOut b dir₀ dir s rows n
   unfolding walked_of records
-  walking_out e q = (
-    ap₂ {C = Walked} (λ (i k : ℕ). record { refusal = i; rows = k; scheme = s }) q v.counted
-        ∙ ap (λ (w : Stop Held). walked_of (outcome_of w)) (sym e),
-    v.kept ∙ ap (λ (w : Stop Held). stored w.state.rows dir₀) (sym e),
-  )
+  walking_out n e q = record {
+    value =
+        ap₂ {C = Walked} (λ (i : Option Refusal) (k : ℕ). record { refusal = i; rows = k; scheme = s }) (refused_by n q)
+        v.counted
+        ∙ ap (λ (w : Stop Held). walked_of (outcome_of w)) (sym e);
+    numbered = q ∙ ap (λ (w : Stop Held). w.number) (sym e);
+    directory_after = v.kept ∙ ap (λ (w : Stop Held). stored w.state.rows dir₀) (sym e);
+  }
 
   -- no whole record stands there
-  pub walking_unread : {n : ℕ} (x : Reading) → read_at b at ≡ x → ((r : Record) (next : ℕ) → x ≡ Found r next → ⊥)
-      → n ≡ stop_number x
-      → (◌≡◌ {A = Walked} (record { refusal = n; rows = rows; scheme = s }) (walked_of (records b)))
-      × (dir ≡ stored (records b).rows dir₀)
-  unfolding stop_number
-  walking_unread Nothing e k q = walking_out (stops_nothing v.accepted e) q
-  walking_unread Unknown e k q = walking_out (stops_unknown v.accepted e) q
-  walking_unread (Short kind) e k q = walking_out (stops_short v.accepted e) q
-  walking_unread (Found r next) e k q = absurd (k r next refl)
+  pub walking_unread : (n : Option Refusal) (x : Reading) → read_at b at ≡ x
+      → ((r : Record) (next : ℕ) → x ≡ Found r next → ⊥)
+      → number_of_any n ≡ stop_number x → WalkedOut b dir₀ dir s rows n
+  unfolding unread_number
+  walking_unread n Nothing e k q = walking_out n (stops_nothing v.accepted e) q
+  walking_unread n Unknown e k q = walking_out n (stops_unknown v.accepted e) q
+  walking_unread n (Short kind) e k q = walking_out n (stops_short v.accepted e) q
+  walking_unread n (Found r next) e k q = absurd (k r next refl)
 
-  pub walking_faulty : {r : Record} {next n : ℕ} → read_at b at ≡ Found r next → n ≡ fault_of s r → (n ≡ 0 → ⊥)
-      → (◌≡◌ {A = Walked} (record { refusal = n; rows = rows; scheme = s }) (walked_of (records b)))
-      × (dir ≡ stored (records b).rows dir₀)
-  walking_faulty e q d = walking_out (stops_faulty v.accepted e (λ z. d (q ∙ z))) q
+  pub walking_faulty : {r : Record} {next : ℕ} (n : Refusal) → read_at b at ≡ Found r next
+      → number_of n ≡ fault_of s r → WalkedOut b dir₀ dir s rows (Some n)
+  walking_faulty n e q = walking_out (Some n) (stops_faulty v.accepted e (λ z. number_not_zero n (q ∙ z))) q
 
 -- the same of a directory, a scheme and a count that are equal to these
 pub walking_as : {b dir₀ dir d : List ℕ} {s t : Scheme} {rows at n : ℕ} → Walking b dir₀ dir s rows at → d ≡ dir → t ≡ s

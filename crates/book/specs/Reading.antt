@@ -3,11 +3,12 @@
 -- Not here: walking records by rules (`records`), the fault of a whole record (`Faults`), what it adds (`Declaring`).
 -- Assumes nothing.
 use Rattle.std.specs.Prelude.{Bool, true, false, ◌||◌, List, [], ◌∷◌, ◌++◌, ℕ, eqb, ltb, length, take, drop}
+use Rattle.refusals.specs.Refusals.{refusal_of_number}
 use Rattle.records.specs.Records.{of_book, kind_of}
-use Rattle.records.specs.Walking.{Rules, Stop, short_number, walk}
+use Rattle.records.specs.Walking.{Rules, Stop, unread_number, walk}
+use Rattle.records.specs.declared.Owner.TheVariants as Owners
 use Rattle.records.specs.declared.Record.{Record}
 use Rattle.records.specs.declared.Reading.{Reading}
-use Rattle.records.specs.declared.Reading.TheVariants.{Nothing, Unknown, Short, Found}
 use Rattle.scheme.specs.declared.Scheme.{Scheme}
 use Rattle.scheme.specs.OfScheme.{MAXIMALS, maximal_of, both_of, cyclic_of}
 use Rattle.reduction.specs.Packed.{padded}
@@ -35,11 +36,8 @@ with_row rows r at = elim (is_row r) [ true ↦ rows ++ at ∷ [] | false ↦ ro
 -- ---- reading record after record
 
 -- the number where no whole record stands: 0 at the end
-unfoldable pub stop_number : Reading → ℕ
-stop_number Nothing = 0
-stop_number Unknown = 2
-stop_number (Short k) = short_number of_book k
-stop_number (Found r next) = 0
+abbrev pub stop_number : Reading → ℕ
+stop_number = unread_number Owners.Book
 
 -- what the records before a position make: the scheme, and the positions of the rows among them
 pub record Held : Type 0 where
@@ -68,7 +66,7 @@ records b = outcome_of (walk book_rules b nothing_held)
 
 -- what the code has of them
 unfoldable pub walked_of : Outcome → Walked
-walked_of o = record { refusal = o.number; rows = length o.rows; scheme = o.scheme }
+walked_of o = record { refusal = refusal_of_number o.number; rows = length o.rows; scheme = o.scheme }
 
 -- ---- "After the last record": "21 a book with both kinds, in place of 8"; "a remaining maximal object with a cycle 9."
 
@@ -104,10 +102,10 @@ unfoldable pub maximals_of : Outcome → List ℕ
 maximals_of o =
     elim (eqb o.number 0 || eqb o.number 21 || eqb o.number 9) [ true ↦ maximal_of o.scheme | false ↦ [] ]
 
--- a number, a count of rows, a scheme and a list of maximal objects, at most MAXIMALS, with 0 behind them
+-- the refusal with a number, a count of rows, a scheme and a list of maximal objects, at most MAXIMALS, with 0 behind them
 unfoldable pub book_with : ℕ → ℕ → Scheme → List ℕ → Book
 book_with number rows s l =
-    record { refusal = number; rows = rows; scheme = s; maximal = padded MAXIMALS l; maximals = length l }
+    record { refusal = refusal_of_number number; rows = rows; scheme = s; maximal = padded MAXIMALS l; maximals = length l }
 
 unfoldable pub book_of : Outcome → Book
 book_of o = book_with o.number (length o.rows) o.scheme (maximals_of o)

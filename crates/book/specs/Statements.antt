@@ -5,6 +5,7 @@
 use Rattle.std.specs.Prelude.{◌≡◌, true, ◌⊎◌, ◌↔◌, ℕ, ◌+◌, ◌^◌, ◌≤◌, ◌<◌, length}
 use mathlib.Core.List.{List, [], ◌∷◌, Memᴰ}
 use Rattle.sets.specs.Sets.{◌∈◌, ◌⊆◌, rank, OBJECTS}
+use Rattle.refusals.specs.Refusals.{number_of_any}
 use Rattle.reduction.specs.Steps.{Step, Form, NodePermits, CoverPermits, Complete, leaves}
 use Rattle.reduction.specs.Kept.{acyclic}
 use Rattle.records.specs.Reader.{read_at}
@@ -22,7 +23,7 @@ use Rattle.scheme.specs.OfScheme.{dependencies_of, declared_of, removed_of, maxi
 use Rattle.scheme.specs.Statements.{JoinsByTheRule, GrownInEveryOrder, ComputedList, SomeObjects, MaximalObjectList}
 use Rattle.book.specs.Faults.{fault_of}
 use Rattle.book.specs.Declaring.{nothing_declared, declare}
-use Rattle.book.specs.Reading.{Outcome, read}
+use Rattle.book.specs.Reading.{Outcome, read, book_of}
 use Rattle.book.specs.Accepting.{Accepted, Faulty, AtLast, Stops}
 use Rattle.book.specs.Conditions.{conditions}
 use Rattle.book.specs.WellFormed.{WellFormed}
@@ -91,6 +92,10 @@ pub record NumberMeans (b : List ℕ) : Type 0 where
   pub zero : ((read b).number ≡ 0) ↔ ((length b ≤ 65536) × AcceptedWhole b 0)
   pub twenty_one : ((read b).number ≡ 21) ↔ ((length b ≤ 65536) × AcceptedWhole b 21)
   pub nine : ((read b).number ≡ 9) ↔ ((length b ≤ 65536) × AcceptedWhole b 9)
+
+-- the refusal in the book has the number of the outcome, and none is in it where that is 0
+pub record RefusalNumbered (b : List ℕ) : Type 0 where
+  pub numbered : number_of_any (book_of (read b)).refusal ≡ (read b).number
 
 -- ---- a cycle: "Every one left must be acyclic: it reduces to nothing with no sacred attributes."
 

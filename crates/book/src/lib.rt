@@ -1,22 +1,23 @@
-// Reading the bytes of a book: its scheme, where its rows stand, and the number that it is refused with.
+// Reading the bytes of a book: its scheme, where its rows stand, and why it is refused.
 #![tactic(auto)]
 
 ghost use Rattle.std.specs.Prelude.{◌≡◌, [], ◌<◌, ◌≤◌, length, drop};
+ghost use Rattle.refusals.specs.Refusals.{number_of, number_of_any, number_of_check};
 ghost use Rattle.sets.specs.Sets.{count, ATTRIBUTES, OBJECTS};
 ghost use Rattle.scheme.specs.OfScheme.{maximal_of};
 ghost use Rattle.records.specs.Checks.{first_of};
-ghost use Rattle.records.specs.Records.{of_book, masks_of};
-ghost use Rattle.records.specs.Walking.{short_number};
+ghost use Rattle.records.specs.Records.{masks_of};
 ghost use Rattle.book.specs.Faults.{some_non_zero, some_outside, wrong_cells, SixAtMost, row_checks};
 ghost use Rattle.book.specs.Faults.{maximal_checks, fault_of};
 ghost use Rattle.book.specs.Declaring.{nothing_declared, with_attribute, with_object, with_dependency, with_maximal};
 ghost use Rattle.book.specs.Declaring.{with_table, with_declared, with_removed, with_only, with_masks, declare};
-ghost use Rattle.book.specs.Reading.{is_row, stop_number, records, walked_of, last_number, last_fault};
+ghost use Rattle.book.specs.Reading.{is_row, records, walked_of, last_number, last_fault};
 ghost use Rattle.book.specs.Reading.{read, book_with, book_of, stored};
 
-use records::{BookRecord, Reading, Record};
+use records::{BookRecord, Owner, Reading, Record};
+use refusals::Refusal;
 use scheme::{MAXIMALS, MaximalRecords, Scheme, TableOfMasks};
-use sets::{ATTRIBUTES, AttributeSet, OBJECTS, ObjectSet};
+use sets::{ATTRIBUTES, AttributeSet, Mask, OBJECTS, ObjectSet};
 
 // One value kind for each attribute.
 const KINDS: usize = ATTRIBUTES as usize;
@@ -25,12 +26,10 @@ const KINDS: usize = ATTRIBUTES as usize;
 fn some_nonzero(cells: [u32; 6], from: usize) -> bool
     ensures { result ≡ some_non_zero (drop from cells) }
 {
-    let mut i = from;
-    while i < 6 {
+    for i in from..6 {
         if cells[i] != 0 {
             return true;
         }
-        i += 1;
     }
     false
 }
@@ -41,15 +40,13 @@ fn some_outside(kinds: [u8; KINDS], set: AttributeSet, cells: [u32; 6]) -> bool
     requires { count ATTRIBUTES set ≤ 6 }
     ensures { result ≡ some_outside kinds set cells ATTRIBUTES }
 {
-    let mut a: usize = 0;
-    while a < KINDS {
-        if sets::has(set, a as u32) {
+    for a in 0..KINDS {
+        if set.has(a as u32) {
             let place = sets::rank(set, a as u32) as usize;
             if !values::in_range(kinds[a], cells[place]) {
                 return true;
             }
         }
-        a += 1;
     }
     false
 }
@@ -59,121 +56,121 @@ fn wrong_cells(kinds: [u8; KINDS], set: AttributeSet, cells: [u32; 6]) -> bool
     requires { count ATTRIBUTES set ≤ 6 }
     ensures { result ≡ wrong_cells kinds set cells }
 {
-    if some_nonzero(cells, sets::count(set) as usize) {
+    if some_nonzero(cells, set.count() as usize) {
         return true;
     }
     some_outside(kinds, set, cells)
 }
 
 // The faults of kinds 1 to 6, 13 and 15, each by the paper's order.
-fn attribute_fault(s: Scheme, id: u8, kind: u8) -> u8
-    ensures { result ≡ fault_of s (Record.OfBook (BookRecord.Attribute id kind)) }
+fn attribute_fault(s: Scheme, id: u8, kind: u8) -> Result<(), Refusal>
+    ensures { number_of_check result ≡ fault_of s (Record.OfBook (BookRecord.Attribute id kind)) }
 {
     if id as u32 >= ATTRIBUTES {
-        return 5;
+        return Err(Refusal::OutOfRange);
     }
     if kind > 3 {
-        return 5;
+        return Err(Refusal::OutOfRange);
     }
-    if sets::has(s.attributes, numbers::wide(id)) {
-        return 6;
+    if s.attributes.has(u32::from(id)) {
+        return Err(Refusal::DeclaredAlready);
     }
-    0
+    Ok(())
 }
 
-fn object_fault(s: Scheme, number: u8, set: AttributeSet) -> u8
-    ensures { result ≡ fault_of s (Record.OfBook (BookRecord.Object number set)) }
+fn object_fault(s: Scheme, number: u8, set: AttributeSet) -> Result<(), Refusal>
+    ensures { number_of_check result ≡ fault_of s (Record.OfBook (BookRecord.Object number set)) }
 {
     if number as u32 >= OBJECTS {
-        return 5;
+        return Err(Refusal::OutOfRange);
     }
-    if sets::is_empty(set) {
-        return 5;
+    if set.is_empty() {
+        return Err(Refusal::OutOfRange);
     }
-    if sets::count(set) > 6 {
-        return 5;
+    if set.count() > 6 {
+        return Err(Refusal::OutOfRange);
     }
-    if sets::has_object(s.objects, numbers::wide(number)) {
-        return 6;
+    if s.objects.has(u32::from(number)) {
+        return Err(Refusal::DeclaredAlready);
     }
-    if !sets::within(set, s.attributes) {
-        return 7;
+    if !set.within(s.attributes) {
+        return Err(Refusal::NotDeclared);
     }
-    0
+    Ok(())
 }
 
-fn dependency_fault(s: Scheme, left: AttributeSet, right: AttributeSet) -> u8
-    ensures { result ≡ fault_of s (Record.OfBook (BookRecord.Dependency left right)) }
+fn dependency_fault(s: Scheme, left: AttributeSet, right: AttributeSet) -> Result<(), Refusal>
+    ensures { number_of_check result ≡ fault_of s (Record.OfBook (BookRecord.Dependency left right)) }
 {
     if s.dependencies >= 64 {
-        return 4;
+        return Err(Refusal::TooManyOfItsKind);
     }
-    if sets::is_empty(left) {
-        return 5;
+    if left.is_empty() {
+        return Err(Refusal::OutOfRange);
     }
-    if sets::is_empty(right) {
-        return 5;
+    if right.is_empty() {
+        return Err(Refusal::OutOfRange);
     }
-    if !sets::within(left, s.attributes) {
-        return 7;
+    if !left.within(s.attributes) {
+        return Err(Refusal::NotDeclared);
     }
-    if !sets::within(right, s.attributes) {
-        return 7;
+    if !right.within(s.attributes) {
+        return Err(Refusal::NotDeclared);
     }
-    0
+    Ok(())
 }
 
-fn row_fault(s: Scheme, object: u8, cells: [u32; 6]) -> u8
+fn row_fault(s: Scheme, object: u8, cells: [u32; 6]) -> Result<(), Refusal>
     requires { SixAtMost s }
-    ensures { result ≡ first_of (row_checks s object cells) }
+    ensures { number_of_check result ≡ first_of (row_checks s object cells) }
 {
     if object as u32 >= OBJECTS {
-        return 5;
+        return Err(Refusal::OutOfRange);
     }
-    if !sets::has_object(s.objects, numbers::wide(object)) {
-        return 7;
+    if !s.objects.has(u32::from(object)) {
+        return Err(Refusal::NotDeclared);
     }
     let k = object as usize;
     let set = s.sets[k];
     if wrong_cells(s.kinds, set, cells) {
-        return 5;
+        return Err(Refusal::OutOfRange);
     }
-    0
+    Ok(())
 }
 
 // The fault of a kind 5 or 6 of which the book has n before it.
-fn maximal_fault(s: Scheme, n: usize, set: ObjectSet) -> u8
-    ensures { result ≡ first_of (maximal_checks s n set) }
+fn maximal_fault(s: Scheme, n: usize, set: ObjectSet) -> Result<(), Refusal>
+    ensures { number_of_check result ≡ first_of (maximal_checks s n set) }
 {
     if n >= 8 {
-        return 4;
+        return Err(Refusal::TooManyOfItsKind);
     }
-    if sets::no_objects(set) {
-        return 5;
+    if set.is_empty() {
+        return Err(Refusal::OutOfRange);
     }
-    if !sets::objects_within(set, s.objects) {
-        return 7;
+    if !set.within(s.objects) {
+        return Err(Refusal::NotDeclared);
     }
-    0
+    Ok(())
 }
 
 // The fault of a comparison table: one more than its bound, or one that breaks the rules.
-fn table_fault(s: Scheme, names: u32, lengths: u32, angles: u32, dates: u32) -> u8
-    ensures { result ≡ fault_of s (Record.OfBook (BookRecord.ComparisonTable names lengths angles dates)) }
+fn table_fault(s: Scheme, names: u32, lengths: u32, angles: u32, dates: u32) -> Result<(), Refusal>
+    ensures { number_of_check result ≡ fault_of s (Record.OfBook (BookRecord.ComparisonTable names lengths angles dates)) }
 {
     if s.table.given >= 1 {
-        return 4;
+        return Err(Refusal::TooManyOfItsKind);
     }
     if !values::keeps_rules(records::masks_of(names, lengths, angles, dates)) {
-        return 20;
+        return Err(Refusal::WrongComparisonTable);
     }
-    0
+    Ok(())
 }
 
-// The fault of a whole record of a book, 0 where it has none.
-fn book_fault(s: Scheme, r: BookRecord) -> u8
+// The fault of a whole record of a book.
+fn book_fault(s: Scheme, r: BookRecord) -> Result<(), Refusal>
     requires { SixAtMost s }
-    ensures { result ≡ fault_of s (Record.OfBook r) }
+    ensures { number_of_check result ≡ fault_of s (Record.OfBook r) }
 {
     match r {
         BookRecord::Attribute { id, kind } => attribute_fault(s, id, kind),
@@ -188,31 +185,27 @@ fn book_fault(s: Scheme, r: BookRecord) -> u8
             c4,
             c5,
         } => { row_fault(s, object, [c0, c1, c2, c3, c4, c5]) }
-        BookRecord::Declared { set } => maximal_fault(
-            s,
-            s.maximal.declarations,
-            numbers::long(set),
-        ),
-        BookRecord::Removed { set } => maximal_fault(s, s.maximal.removals, numbers::long(set)),
+        BookRecord::Declared { set } => maximal_fault(s, s.maximal.declarations, u64::from(set)),
+        BookRecord::Removed { set } => maximal_fault(s, s.maximal.removals, u64::from(set)),
         BookRecord::ComparisonTable {
             names,
             lengths,
             angles,
             dates,
         } => { table_fault(s, names, lengths, angles, dates) }
-        BookRecord::OnlyDeclared => 0,
+        BookRecord::OnlyDeclared => Ok(()),
         BookRecord::DeclaredWide { set } => maximal_fault(s, s.maximal.declarations, set),
     }
 }
 
 // The fault of a whole record: a query's may not stand in a book.
-fn fault(s: Scheme, r: Record) -> u8
+fn fault(s: Scheme, r: Record) -> Result<(), Refusal>
     requires { SixAtMost s }
-    ensures { result ≡ fault_of s r }
+    ensures { number_of_check result ≡ fault_of s r }
 {
     match r {
         Record::OfBook(record) => book_fault(s, record),
-        Record::OfQuery(_) => 2,
+        Record::OfQuery(_) => Err(Refusal::KindNotAllowed),
     }
 }
 
@@ -249,7 +242,7 @@ fn with_attribute(mut s: Scheme, id: u8, kind: u8) -> Scheme
 {
     let i = id as usize;
     s.kinds[i] = kind;
-    s.attributes = sets::insert(s.attributes, numbers::wide(id));
+    s.attributes = s.attributes.insert(u32::from(id));
     s
 }
 
@@ -259,7 +252,7 @@ fn with_object(mut s: Scheme, number: u8, set: AttributeSet) -> Scheme
 {
     let i = number as usize;
     s.sets[i] = set;
-    s.objects = sets::insert_object(s.objects, numbers::wide(number));
+    s.objects = s.objects.insert(u32::from(number));
     s
 }
 
@@ -325,17 +318,9 @@ fn declare_record(s: Scheme, r: BookRecord) -> Scheme
         BookRecord::Attribute { id, kind } => with_attribute(s, id, kind),
         BookRecord::Object { number, set } => with_object(s, number, set),
         BookRecord::Dependency { left, right } => with_dependency(s, left, right),
-        BookRecord::Row {
-            object: _,
-            c0: _,
-            c1: _,
-            c2: _,
-            c3: _,
-            c4: _,
-            c5: _,
-        } => s,
-        BookRecord::Declared { set } => with_declared(s, numbers::long(set)),
-        BookRecord::Removed { set } => with_removed(s, numbers::long(set)),
+        BookRecord::Row { .. } => s,
+        BookRecord::Declared { set } => with_declared(s, u64::from(set)),
+        BookRecord::Removed { set } => with_removed(s, u64::from(set)),
         BookRecord::ComparisonTable {
             names,
             lengths,
@@ -359,34 +344,17 @@ fn declare(s: Scheme, r: Record) -> Scheme
 }
 
 // Whether a record is a row.
+#[tactic(auto, unfolding(crate::specs::Reading::is_row, records::specs::Records::kind_of))]
 fn is_row(r: Record) -> bool
     ensures { result ≡ is_row r }
 {
-    records::kind_of(r) == 4
+    matches!(r, Record::OfBook(BookRecord::Row { .. }))
 }
 
-// The fault of a body that is cut short, by its kind.
-fn short_fault(kind: u8) -> u8
-    ensures { result ≡ short_number of_book kind }
-{
-    if records::of_book(kind) { 3 } else { 2 }
-}
-
-// The number where no whole record stands: 0 at the end.
-fn unread(found: Reading) -> u8
-    ensures { result ≡ stop_number found }
-{
-    match found {
-        Reading::Unknown => 2,
-        Reading::Short(kind) => short_fault(kind),
-        _ => 0,
-    }
-}
-
-// What the records of a book come to: the fault of the earliest faulty one, or 0, and what stands before it.
+// What the records of a book come to: the fault of the earliest faulty one, if one is, and what stands before it.
 #[derive(Clone, Copy)]
 struct Walked {
-    refusal: u8,
+    refusal: Option<Refusal>,
     rows: usize,
     scheme: Scheme,
 }
@@ -396,6 +364,7 @@ struct Walked {
 fn walk(bytes: &[u8], directory: &mut [u32]) -> Walked
     requires { length bytes.now ≤ 65536 }
     ensures value { result ≡ walked_of (records bytes.now) }
+    ensures numbered { number_of_any result.refusal ≡ (records bytes.now).number }
     ensures directory_after { directory.new ≡ stored (records bytes.now).rows directory.old }
 {
     let mut scheme = nothing_declared();
@@ -405,15 +374,14 @@ fn walk(bytes: &[u8], directory: &mut [u32]) -> Walked
         let found = records::read(bytes, at);
         let Reading::Found(r, next) = found else {
             return Walked {
-                refusal: unread(found),
+                refusal: records::unread(found, Owner::Book),
                 rows,
                 scheme,
             };
         };
-        let refusal = fault(scheme, r);
-        if refusal != 0 {
+        if let Err(refusal) = fault(scheme, r) {
             return Walked {
-                refusal,
+                refusal: Some(refusal),
                 rows,
                 scheme,
             };
@@ -430,12 +398,12 @@ fn walk(bytes: &[u8], directory: &mut [u32]) -> Walked
     }
 }
 
-// A book that was read: the number that it is refused with, or 0, how many rows it has, its scheme, and its maximal
-// objects, with 0 behind them. A refused book has the rows and the scheme of the records before the fault, and maximal
-// objects only where all records were accepted (0, 21 and 9).
+// A book that was read: why it is refused, if it is, how many rows it has, its scheme, and its maximal objects, with 0
+// behind them. A refused book has the rows and the scheme of the records before the fault, and maximal objects only
+// where all records were accepted: where it is not refused, or with 21 or 9.
 #[derive(Clone, Copy)]
 pub struct Book {
-    pub refusal: u8,
+    pub refusal: Option<Refusal>,
     pub rows: usize,
     pub scheme: Scheme,
     pub maximal: [ObjectSet; MAXIMALS],
@@ -443,11 +411,11 @@ pub struct Book {
 }
 
 // A book refused before its end: it has no maximal objects.
-fn stopped(refusal: u8, rows: usize, scheme: Scheme) -> Book
-    ensures { result ≡ book_with refusal rows scheme [] }
+fn stopped(refusal: Refusal, rows: usize, scheme: Scheme) -> Book
+    ensures { result ≡ book_with (number_of refusal) rows scheme [] }
 {
     Book {
-        refusal,
+        refusal: Some(refusal),
         rows,
         scheme,
         maximal: [0; MAXIMALS],
@@ -456,13 +424,17 @@ fn stopped(refusal: u8, rows: usize, scheme: Scheme) -> Book
 }
 
 // The fault of a scheme after the last record.
-fn last_fault(both: bool, cyclic: bool) -> u8
-    ensures { result ≡ last_number both cyclic }
+fn last_fault(both: bool, cyclic: bool) -> Option<Refusal>
+    ensures { number_of_any result ≡ last_number both cyclic }
 {
     if both {
-        return 21;
+        return Some(Refusal::RemovedWithOnlyDeclared);
     }
-    if cyclic { 9 } else { 0 }
+    if cyclic {
+        Some(Refusal::CyclicMaximalObject)
+    } else {
+        None
+    }
 }
 
 // A book whose records were all accepted: its maximal objects, and the faults of its scheme.
@@ -487,12 +459,12 @@ pub fn read(bytes: &[u8], directory: &mut [u32]) -> Book
     ensures directory_after { directory.new ≡ stored (read bytes.now).rows directory.old }
 {
     if bytes.len() > 65536 {
-        return stopped(1, 0, nothing_declared());
+        return stopped(Refusal::TooManyBytes, 0, nothing_declared());
     }
     let w = walk(bytes, directory);
     let scheme = w.scheme;
-    if w.refusal != 0 {
-        return stopped(w.refusal, w.rows, scheme);
+    if let Some(refusal) = w.refusal {
+        return stopped(refusal, w.rows, scheme);
     }
     finished(w.rows, scheme)
 }

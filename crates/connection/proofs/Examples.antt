@@ -7,6 +7,7 @@ use mathlib.Core.List.{List, [], ◌∷◌, ◌++◌, map}
 use Prim.Native.Nat.{ℕ}
 use lib.ListN.{length, drop, replicate}
 use Rattle.numbers.specs.Numbers.{is_nil}
+use Rattle.refusals.specs.Refusals.{number_of_any, refusals, refusal_of_number}
 use Rattle.sets.specs.Sets.{bit, has, within, ◌∩◌, ◌∪◌, ◌∖◌, single, is_empty, rank, members}
 use Rattle.values.specs.Values.{missing, in_range, signed, value_of, less_cell, matches}
 use Rattle.values.specs.Operators.{compares, holds}
@@ -116,7 +117,7 @@ unfoldable pub outcome : List BookRecord → List ℕ → ℕ → List ℕ → L
 outcome book q serial space =
     let b : List ℕ = bytes_of_book book in
     let a : Answer = answer_of b q serial (length space) in
-    (a.refusal ∷ a.rows ∷ a.serial ∷ a.read ∷ []) ∷ space_after b q serial space ∷ []
+    (number_of_any a.refusal ∷ a.rows ∷ a.serial ∷ a.read ∷ []) ∷ space_after b q serial space ∷ []
 
 -- the rows of a query's records with kind 10 behind them
 unfoldable pub rows : List BookRecord → List QueryRecord → List (List ℕ)
@@ -198,7 +199,7 @@ outcomes =
     ∷ []
 
 pub outcomes_hold : map (λ t. t.gives) outcomes ≡ map (λ t. t.says) outcomes
-unfolding outcomes outcome queries two_objects lengths with_empty survey ring space_after answer_of refused number
+unfolding outcomes outcome queries two_objects lengths with_empty survey ring space_after answer_of refused refusal_of_number refusals number
     space_number asked_number rows_answered answer_rows item_kinds choices picks_of in_front rows_for cells_of meets is_true right_cell
     item_cells Answers.rows_chosen connection parts with_rows Sorted.cells_of insert_rows insert_row less_row Query.read at_end
     whole_number some_unconnected unconnected is_nil containing walk_query is_end Queries.fault_of Queries.checks of_query
@@ -257,7 +258,7 @@ row_trials =
 
 pub rows_hold : map (λ t. t.gives) row_trials ≡ map (λ t. t.says) row_trials
 unfolding row_trials rows beside with_table with_masks keeps_rules entry_keeps every_below mirrored two_objects far_rows far
-    lengths with_empty survey ring space_after answer_of refused number space_number asked_number rows_answered answer_rows item_kinds
+    lengths with_empty survey ring space_after answer_of refused refusal_of_number refusals number space_number asked_number rows_answered answer_rows item_kinds
     choices picks_of in_front rows_for cells_of meets is_true right_cell item_cells Answers.rows_chosen connection parts
     with_rows Sorted.cells_of insert_rows insert_row less_row Query.read at_end whole_number some_unconnected unconnected
     is_nil containing walk_query is_end Queries.fault_of Queries.checks of_query asked_of comparisons_in conjunction filled attributes_named naming

@@ -13,5 +13,6 @@ pub mod Ways
 pub mod Order
 pub mod Spaces
 pub mod Outcomes
+pub mod Numbered
 pub mod Theorems
 pub mod Examples

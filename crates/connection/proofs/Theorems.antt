@@ -26,7 +26,7 @@ use Rattle.connection.specs.Answers.{Cells, kind_of, kind_at, right_cell, is_tru
 use Rattle.connection.specs.Statements.{CombinationsCounted, CombinationsListed, CombinationsOrdered}
 use Rattle.connection.specs.Order.{ways_picked}
 use Rattle.connection.specs.Answering.{query_read, rows_answered}
-use Rattle.connection.specs.Outcomes.{item_count, AnswerNumberMeans, Demand1, PromiseE}
+use Rattle.connection.specs.Outcomes.{item_count, AnswerNumberMeans, RefusalNumbered, Demand1, PromiseE}
 use Rattle.connection.proofs.InRange.{read_in_range}
 use Rattle.connection.proofs.Shown.{of_shown_row, row_of_object, tables_kept}
 use Rattle.connection.proofs.Connected.{of_connection_law, connection_has}
@@ -40,6 +40,7 @@ use Rattle.connection.proofs.Order.{combinations_once, combinations_in_order, co
 use Rattle.connection.proofs.Spaces.{AllWide}
 use Rattle.connection.proofs.Outcomes.{number_of_book, number_of_query, number_fourteen, number_thirteen}
 use Rattle.connection.proofs.Outcomes.{number_full, number_otherwise, number_one_of, number_not_eight}
+use Rattle.connection.proofs.Numbered.{refusal_number}
 use Rattle.connection.proofs.Outcomes.{outcome_there, outcome_only}
 use Rattle.connection.proofs.Outcomes.{cells_as_many, rows_in_front, cells_behind}
 
@@ -158,6 +159,11 @@ answer_number_means b q serial room = record {
   one_of = number_one_of b q serial room;
   not_eight = number_not_eight b q serial room;
 }
+
+-- ---- why it is refused
+
+pub refusal_numbered : (b q : List ℕ) (serial room : ℕ) → RefusalNumbered b q serial room
+refusal_numbered b q serial room = record { numbered = refusal_number b q serial room }
 
 -- ---- demand 1
 

@@ -3,24 +3,27 @@
 #![tactic(auto)]
 
 ghost use Rattle.std.specs.Prelude.{◌≡◌};
+ghost use Rattle.refusals.specs.Refusals.{number_of};
 ghost use Rattle.connection.specs.Answering.{refused};
 
-// What an answer comes to: the number that it is refused with, or 0; the count of rows; the serial number; the bytes of
-// the query that were read.
+use refusals::Refusal;
+
+// What an answer comes to: why it is refused, if it is; the count of rows; the serial number; the bytes of the query that
+// were read.
 #[derive(Clone, Copy)]
 pub struct Answer {
-    pub refusal: u8,
+    pub refusal: Option<Refusal>,
     pub rows: usize,
     pub serial: u32,
     pub read: usize,
 }
 
-// A refusal: its number, no rows, the serial unchanged, no bytes read.
-pub fn refused(number: u8, serial: u32) -> Answer
-    ensures { result ≡ refused number serial }
+// A refusal: why, no rows, the serial unchanged, no bytes read.
+pub fn refused(refusal: Refusal, serial: u32) -> Answer
+    ensures { result ≡ refused (number_of refusal) serial }
 {
     Answer {
-        refusal: number,
+        refusal: Some(refusal),
         rows: 0,
         serial,
         read: 0,

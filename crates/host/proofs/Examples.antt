@@ -4,9 +4,11 @@
 use mathlib.Core.Path.{◌≡◌, refl}
 use mathlib.Core.List.{List, [], ◌∷◌, map}
 use Prim.Native.Nat.{ℕ}
+use Rattle.std.proofs.Common.{Ok, Err, None}
 use lib.ListN.{length, get_or, replicate}
+use Rattle.refusals.specs.Refusals.{refusals, refusal_of_number}
 use Rattle.connection.specs.Answering.{refused}
-use Rattle.printout.specs.declared.Printed.TheVariants.{Bytes, NoRoom, NotFit}
+use Rattle.printout.specs.declared.Unprinted.TheVariants.{NoRoom, NotFit}
 use Rattle.host.specs.Results.{answer_cells, answer_status, give_status, give_results, given_status, given_results}
 use Rattle.host.specs.Results.{sheet_status, sheet_results}
 use Rattle.host.specs.Words.{words, words_of}
@@ -25,14 +27,14 @@ trials =
     record { gives = answer_cells (refused 13 5); says = 13 ∷ 0 ∷ 5 ∷ 0 ∷ [] }
     -- "A full answer returns the row count, the serial plus one and the bytes of query read"
     ∷ record {
-      gives = answer_cells (record { refusal = 0; rows = 2; serial = 6; read = 7 });
+      gives = answer_cells (record { refusal = None; rows = 2; serial = 6; read = 7 });
       says = 0 ∷ 2 ∷ 6 ∷ 7 ∷ [];
     }
     -- bytes that are given: how many they are, and the other results as they were
-    ∷ record { gives = given_results (Bytes 3) (77 ∷ 88 ∷ []); says = 3 ∷ 88 ∷ [] }
-    ∷ record { gives = given_results NoRoom (77 ∷ 88 ∷ []); says = 77 ∷ 88 ∷ [] }
-    ∷ record { gives = given_results NotFit (77 ∷ 88 ∷ []); says = 77 ∷ 88 ∷ [] }
-    ∷ record { gives = given_results (Bytes 3) []; says = [] }
+    ∷ record { gives = given_results (Ok 3) (77 ∷ 88 ∷ []); says = 3 ∷ 88 ∷ [] }
+    ∷ record { gives = given_results (Err NoRoom) (77 ∷ 88 ∷ []); says = 77 ∷ 88 ∷ [] }
+    ∷ record { gives = given_results (Err NotFit) (77 ∷ 88 ∷ []); says = 77 ∷ 88 ∷ [] }
+    ∷ record { gives = given_results (Ok 3) []; says = [] }
     -- a sheet: its number, in a place of its own
     ∷ record { gives = sheet_results 19 (77 ∷ 88 ∷ []); says = 19 ∷ 88 ∷ [] }
     ∷ record { gives = sheet_status [] ∷ sheet_status (7 ∷ []) ∷ []; says = 1 ∷ 0 ∷ [] }
@@ -44,8 +46,8 @@ trials =
     }
     ∷ record {
       gives =
-          given_status (Bytes 3) [] ∷ given_status NoRoom [] ∷ given_status NotFit [] ∷ given_status (Bytes 3) (7 ∷ [])
-          ∷ given_status NoRoom (7 ∷ []) ∷ given_status NotFit (7 ∷ []) ∷ [];
+          given_status (Ok 3) [] ∷ given_status (Err NoRoom) [] ∷ given_status (Err NotFit) [] ∷ given_status (Ok 3) (7 ∷ [])
+          ∷ given_status (Err NoRoom) (7 ∷ []) ∷ given_status (Err NotFit) (7 ∷ []) ∷ [];
       says = 1 ∷ 1 ∷ 1 ∷ 0 ∷ 1 ∷ 2 ∷ [];
     }
     -- the table of docs/REFUSALS.md
@@ -70,6 +72,6 @@ trials =
     ∷ []
 
 pub trials_hold : map (λ t. t.gives) trials ≡ map (λ t. t.says) trials
-unfolding trials letter words answer_cells refused answer_status give_status give_results given_status given_results
+unfolding trials letter words answer_cells refused refusal_of_number refusals answer_status give_status give_results given_status given_results
     sheet_status sheet_results
 trials_hold = refl

@@ -6,11 +6,16 @@ use mathlib.Core.List.{List, [], ◌∷◌, ◌++◌}
 use Prim.Native.Nat.{ℕ, ◌≤◌, ◌<◌}
 use native.Mathlib.Omega.{arith}
 use borrow.Author.Tests.{lt-ltb, le-ltb}
+use Rattle.std.proofs.Common.{Result, Ok, Err}
+use Rattle.std.specs.Result.{result_err}
+use Rattle.refusals.specs.declared.Refusal.{Refusal}
 use lib.ListN.{length, set, drop}
+use Rattle.refusals.specs.Refusals.{number_of_any, number_of_check}
 use Rattle.connection.specs.declared.Answer.{Answer}
 use Rattle.connection.specs.Answering.{answer_of, space_after}
-use Rattle.printout.specs.declared.Printed.{Printed}
-use Rattle.printout.specs.declared.Printed.TheVariants.{Bytes, NoRoom, NotFit}
+use Rattle.printout.specs.declared.Unprinted.{Unprinted}
+use Rattle.printout.specs.declared.Unprinted.TheVariants.{NoRoom, NotFit}
+use Rattle.printout.specs.Printing.{Printed}
 use Rattle.host.specs.Results.{short, done, not_fit, answer_cells, answer_status, answer_results, answer_space}
 use Rattle.host.specs.Results.{give_status, give_results, given_status, given_results, given_bytes, sheet_status}
 use Rattle.host.specs.Results.{sheet_results}
@@ -46,7 +51,7 @@ module _ (b q : List ℕ) (serial : ℕ) (space results : List ℕ) where
       )
 
   pub answer_done : 4 ≤ length results → {a : Answer} {after : List ℕ} {n m k l : ℕ}
-      → (a ≡ answer_of b q serial (length space)) × (after ≡ space_after b q serial space) → n ≡ a.refusal → m ≡ a.rows
+      → (a ≡ answer_of b q serial (length space)) × (after ≡ space_after b q serial space) → n ≡ number_of_any a.refusal → m ≡ a.rows
       → k ≡ a.serial → l ≡ a.read
       → Answers b q serial space results done after (set (set (set (set results 0 n) 1 m) 2 k) 3 l)
   unfolding answer_status answer_space answer_results answer_cells
@@ -59,9 +64,9 @@ module _ (b q : List ℕ) (serial : ℕ) (space results : List ℕ) where
       cells : n ∷ m ∷ k ∷ l ∷ drop 4 results ≡ answer_cells (answer_of b q serial (length space)) ++ drop 4 results
       cells =
           ap (λ (i : ℕ). i ∷ m ∷ k ∷ l ∷ drop 4 results) u
-          ∙ ap (λ (i : ℕ). a.refusal ∷ i ∷ k ∷ l ∷ drop 4 results) v
-          ∙ ap (λ (i : ℕ). a.refusal ∷ a.rows ∷ i ∷ l ∷ drop 4 results) w
-          ∙ ap (λ (i : ℕ). a.refusal ∷ a.rows ∷ a.serial ∷ i ∷ drop 4 results) x
+          ∙ ap (λ (i : ℕ). number_of_any a.refusal ∷ i ∷ k ∷ l ∷ drop 4 results) v
+          ∙ ap (λ (i : ℕ). number_of_any a.refusal ∷ a.rows ∷ i ∷ l ∷ drop 4 results) w
+          ∙ ap (λ (i : ℕ). number_of_any a.refusal ∷ a.rows ∷ a.serial ∷ i ∷ drop 4 results) x
           ∙ ap (λ (y : Answer). answer_cells y ++ drop 4 results) p.0
 
 -- ---- bytes that are given
@@ -70,7 +75,7 @@ module _ (b q : List ℕ) (serial : ℕ) (space results : List ℕ) where
 abbrev Reports : Printed → List ℕ → ℕ → List ℕ → Type 0
 Reports p results status resultsNow = (status ≡ give_status p) × (resultsNow ≡ give_results p results)
 
-pub bytes_here : (results : List ℕ) {p : Printed} {n m : ℕ} → p ≡ Bytes n → 1 ≤ length results → m ≡ n
+pub bytes_here : (results : List ℕ) {p : Printed} {n m : ℕ} → p ≡ Ok n → 1 ≤ length results → m ≡ n
     → Reports p results done (set results 0 m)
 unfolding give_status give_results
 bytes_here results {n = n} {m} q h e = (
@@ -78,13 +83,12 @@ bytes_here results {n = n} {m} q h e = (
   one_written results m h ∙ ap (λ (i : ℕ). i ∷ drop 1 results) e ∙ sym (ap (λ (x : Printed). give_results x results) q),
 )
 
-pub told_short : (results : List ℕ) {p : Printed} → p ≡ NoRoom → Reports p results short results
-unfolding give_status give_results
-told_short results q = (sym (ap give_status q), sym (ap (λ (x : Printed). give_results x results) q))
-
-pub told_not_fit : (results : List ℕ) {p : Printed} → p ≡ NotFit → Reports p results not_fit results
-unfolding give_status give_results
-told_not_fit results q = (sym (ap give_status q), sym (ap (λ (x : Printed). give_results x results) q))
+-- and none where there are none
+pub told_nothing : (results : List ℕ) {p : Printed} {reason : Unprinted} {status : ℕ} → p ≡ Err reason
+    → status ≡ give_status (Err reason) → Reports p results status results
+unfolding give_results
+told_nothing results {reason = NoRoom} q e = (e ∙ sym (ap give_status q), sym (ap (λ (x : Printed). give_results x results) q))
+told_nothing results {reason = NotFit} q e = (e ∙ sym (ap give_status q), sym (ap (λ (x : Printed). give_results x results) q))
 
 -- what a call that prints gives back
 abbrev Gives : Printed → List ℕ → List ℕ → List ℕ → ℕ → List ℕ → List ℕ → Type 0
@@ -113,6 +117,11 @@ module _ (p : Printed) (after before results : List ℕ) where
       )
 
 -- ---- a sheet
+
+-- the number of what a sheet was refused with
+pub check_number : {A : Type 0} (s : Result A Refusal) → number_of_any (result_err s) ≡ number_of_check s
+check_number (Ok x) = refl
+check_number (Err r) = refl
 
 -- what a call for a sheet of number n gives back
 abbrev Sheets : ℕ → List ℕ → List ℕ → List ℕ → ℕ → List ℕ → List ℕ → Type 0

@@ -3,8 +3,8 @@
 use mathlib.Core.Path.{◌∙◌}
 use mathlib.Core.List.{List}
 use Prim.Native.Nat.{ℕ}
-use Rattle.printout.specs.declared.Printed.{Printed}
 use Rattle.run.specs.Items.{item_kinds_of}
+use Rattle.printout.specs.Printing.{Printed}
 use Rattle.host.specs.Words.{words_printed, words_after}
 use Rattle.host.specs.Statements.{AnswerGiven, BytesGiven, SheetReported, NothingChanged, WordsSaid}
 use Rattle.host.proofs.Places as Places

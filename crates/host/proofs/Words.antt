@@ -9,14 +9,18 @@ use Prim.Native.Nat.{ℕ, ◌+◌, ◌*◌, ◌≤◌, ◌<◌}
 use native.Mathlib.Omega.{arith}
 use borrow.Author.Tests.{lt-ltb, ltb-true, le-leb, leb-true, eq-eqb, eqb-true}
 use lib.Dec.{eqb, leb, ltb}
+use Rattle.std.proofs.Common.{None, Some, Err}
 use lib.ListN.{length, get_or, get_or-eq_default}
+use Rattle.refusals.specs.declared.Refusal.{Refusal}
+use Rattle.refusals.specs.declared.Refusal.TheVariants.{TooManyBytes, KindNotAllowed, CutShort, TooManyOfItsKind, OutOfRange, DeclaredAlready, NotDeclared, CyclicMaximalObject, NoItem, OperatorNotAllowed, NoConnection, SpaceTooSmall, LastSerialNumber, SheetNotPrintable, NoSuchSheet, WrongComparisonTable, RemovedWithOnlyDeclared}
+use Rattle.refusals.specs.Refusals.{number_of, refusals, refusal_of_number}
+use Rattle.refusals.proofs.Numbers.{numbered_exactly}
 use Rattle.sets.proofs.Tests.{yes_no, not_yes, and_yes, yes_and, or_left, or_right, yes_or}
 use Rattle.values.specs.Table.{every_below}
 use Rattle.values.proofs.Table.{every_below_law}
 use Rattle.sets.proofs.Numbers.{lt_or_le}
-use Rattle.printout.specs.declared.Printed.{Printed}
-use Rattle.printout.specs.declared.Printed.TheVariants.{NotFit}
-use Rattle.printout.specs.Printing.{printed, after}
+use Rattle.printout.specs.declared.Unprinted.TheVariants.{NotFit}
+use Rattle.printout.specs.Printing.{Printed, printed, after}
 use Rattle.host.specs.Words.{words, words_of, has_words, words_printed, words_after}
 use Rattle.host.specs.Statements.{Listed}
 
@@ -101,7 +105,7 @@ pub words_given : (n : ℕ) (out : List ℕ) → Listed n
 unfolding words_printed words_after
 words_given n out h = let y = listed_words n h in (rw (words_printed, y), rw (words_after, y))
 
-pub none_given : (n : ℕ) (out : List ℕ) → (Listed n → ⊥) → (words_printed n out ≡ NotFit) × (words_after n out ≡ out)
+pub none_given : (n : ℕ) (out : List ℕ) → (Listed n → ⊥) → (words_printed n out ≡ Err NotFit) × (words_after n out ≡ out)
 unfolding words_printed words_after
 none_given n out f =
     let z = not_yes (λ y. f (words_listed n y)) in (rw (words_printed, z), rw (words_after, z))
@@ -126,24 +130,49 @@ no_words n d1 d2 d3 d4 d5 d6 d7 d9 d10 d11 d12 d13 d14 d18 d19 d20 d21 =
     none (inr (inl (l, h))) = beyond (up (up (up (up (up (up l d9) d10) d11) d12) d13) d14) h
     none (inr (inr (l, h))) = beyond (up (up (up (up l d18) d19) d20) d21) h
 
+-- each refusal has words
+some_words : (r : Refusal) → has_words (number_of r) ≡ true
+unfolding words has_words
+some_words TooManyBytes = refl
+some_words KindNotAllowed = refl
+some_words CutShort = refl
+some_words TooManyOfItsKind = refl
+some_words OutOfRange = refl
+some_words DeclaredAlready = refl
+some_words NotDeclared = refl
+some_words CyclicMaximalObject = refl
+some_words NoItem = refl
+some_words OperatorNotAllowed = refl
+some_words NoConnection = refl
+some_words SpaceTooSmall = refl
+some_words LastSerialNumber = refl
+some_words SheetNotPrintable = refl
+some_words NoSuchSheet = refl
+some_words WrongComparisonTable = refl
+some_words RemovedWithOnlyDeclared = refl
+
+not_none : {n k : ℕ} {r : Refusal} → refusal_of_number n ≡ None → refusal_of_number k ≡ Some r → n ≡ k → ⊥
+not_none z y e = let w = ap refusal_of_number e in cc
+
 module _ (n : ℕ) (out : List ℕ) where
   -- the number of a refusal, whose words are these
-  pub words_are : {k : ℕ} {text : List ℕ} {r : Printed} {end : List ℕ} → n ≡ k → has_words k ≡ true → text ≡ words_of k
-      → (r ≡ printed text out) × (end ≡ after text out) → (r ≡ words_printed n out) × (end ≡ words_after n out)
+  pub words_are : {r : Refusal} {text : List ℕ} {p : Printed} {end : List ℕ} → refusal_of_number n ≡ Some r
+      → text ≡ words_of (number_of r)
+      → (p ≡ printed text out) × (end ≡ after text out) → (p ≡ words_printed n out) × (end ≡ words_after n out)
   unfolding words_printed words_after
-  words_are {k} e y t p =
-      let w = ap has_words e ∙ y in
+  words_are {r} i t p =
+      let e = (numbered_exactly r n).its_number i in
+      let w = ap has_words e ∙ some_words r in
       let u = t ∙ ap words_of (sym e) in (
         p.0 ∙ ap (λ (x : List ℕ). printed x out) u ∙ sym (rw (words_printed, w)),
         p.1 ∙ ap (λ (x : List ℕ). after x out) u ∙ sym (rw (words_after, w)),
       )
 
   -- any other
-  pub words_none : (n ≡ 1 → ⊥) → (n ≡ 2 → ⊥) → (n ≡ 3 → ⊥) → (n ≡ 4 → ⊥) → (n ≡ 5 → ⊥)
-      → (n ≡ 6 → ⊥) → (n ≡ 7 → ⊥) → (n ≡ 9 → ⊥) → (n ≡ 10 → ⊥) → (n ≡ 11 → ⊥) → (n ≡ 12 → ⊥) → (n ≡ 13 → ⊥)
-      → (n ≡ 14 → ⊥) → (n ≡ 18 → ⊥) → (n ≡ 19 → ⊥) → (n ≡ 20 → ⊥) → (n ≡ 21 → ⊥)
-      → (NotFit ≡ words_printed n out) × (out ≡ words_after n out)
-  unfolding words_printed words_after
-  words_none d1 d2 d3 d4 d5 d6 d7 d9 d10 d11 d12 d13 d14 d18 d19 d20 d21 =
-      let e = no_words n d1 d2 d3 d4 d5 d6 d7 d9 d10 d11 d12 d13 d14 d18 d19 d20 d21 in
+  pub words_none : refusal_of_number n ≡ None → (Err NotFit ≡ words_printed n out) × (out ≡ words_after n out)
+  unfolding words_printed words_after refusals refusal_of_number
+  words_none z =
+      let e = no_words n (not_none z refl) (not_none z refl) (not_none z refl) (not_none z refl) (not_none z refl)
+      (not_none z refl) (not_none z refl) (not_none z refl) (not_none z refl) (not_none z refl) (not_none z refl)
+      (not_none z refl) (not_none z refl) (not_none z refl) (not_none z refl) (not_none z refl) (not_none z refl) in
       (sym (rw (words_printed, e)), sym (rw (words_after, e)))

@@ -2,11 +2,12 @@
 -- In order: statuses, an answer, bytes that are given, a sheet.
 -- Not here: the words of a refusal (`Words`).
 -- Assumes nothing.
-use Rattle.std.specs.Prelude.{Bool, true, false, List, [], ◌∷◌, ◌++◌, ℕ, ltb, length, drop}
+use Rattle.std.specs.Prelude.{Ok, Err, Bool, true, false, List, [], ◌∷◌, ◌++◌, ℕ, ltb, length, drop}
+use Rattle.refusals.specs.Refusals.{number_of_any}
 use Rattle.connection.specs.declared.Answer.{Answer}
 use Rattle.connection.specs.Answering.{answer_of, space_after}
-use Rattle.printout.specs.declared.Printed.{Printed}
-use Rattle.printout.specs.declared.Printed.TheVariants.{Bytes, NoRoom, NotFit}
+use Rattle.printout.specs.Printing.{Printed}
+use Rattle.printout.specs.declared.Unprinted.TheVariants.{NoRoom, NotFit}
 
 -- ---- statuses: with any but the first nothing is changed
 
@@ -26,7 +27,7 @@ not_fit = 2
 -- "A refusal returns its number, row count 0, the serial unchanged and 0 query bytes read."; "A full answer returns the
 -- row count, the serial plus one and the bytes of query read"
 unfoldable pub answer_cells : Answer → List ℕ
-answer_cells a = a.refusal ∷ a.rows ∷ a.serial ∷ a.read ∷ []
+answer_cells a = number_of_any a.refusal ∷ a.rows ∷ a.serial ∷ a.read ∷ []
 
 -- no room for them
 abbrev pub too_few : List ℕ → Bool
@@ -49,14 +50,14 @@ answer_space b q serial space results =
 -- ---- bytes that are given: one result, how many they are
 
 unfoldable pub give_status : Printed → ℕ
-give_status (Bytes n) = done
-give_status NoRoom = short
-give_status NotFit = not_fit
+give_status (Ok n) = done
+give_status (Err NoRoom) = short
+give_status (Err NotFit) = not_fit
 
 unfoldable pub give_results : Printed → List ℕ → List ℕ
-give_results (Bytes n) results = n ∷ drop 1 results
-give_results NoRoom results = results
-give_results NotFit results = results
+give_results (Ok n) results = n ∷ drop 1 results
+give_results (Err NoRoom) results = results
+give_results (Err NotFit) results = results
 
 -- the same where there may be no room for the result
 unfoldable pub given_status : Printed → List ℕ → ℕ

@@ -2,12 +2,11 @@
 -- In order: an answer, bytes that are given, a sheet, a status other than 0, the words of refusals.
 -- Not here: which value kinds are given (`KindsGiven` of `run`), the text of an answer (`printout`).
 -- Assumes nothing.
-use Rattle.std.specs.Prelude.{◌≡◌, ◌⊎◌, ◌↔◌, List, ℕ, ◌+◌, ◌≤◌, ◌<◌, length, get_or}
+use Rattle.std.specs.Prelude.{Ok, Err, ◌≡◌, ◌⊎◌, ◌↔◌, List, ℕ, ◌+◌, ◌≤◌, ◌<◌, length, get_or}
 use Rattle.book.specs.Reading.{read}
 use Rattle.connection.specs.Answering.{query_read, rows_answered, number, space_after}
-use Rattle.printout.specs.Printing.{printed, after, answer_printed, after_answer}
-use Rattle.printout.specs.declared.Printed.{Printed}
-use Rattle.printout.specs.declared.Printed.TheVariants.{Bytes, NoRoom, NotFit}
+use Rattle.printout.specs.Printing.{Printed, printed, after, answer_printed, after_answer}
+use Rattle.printout.specs.declared.Unprinted.TheVariants.{NoRoom, NotFit}
 use Rattle.run.specs.Items.{item_kinds_of}
 use Rattle.host.specs.Results.{answer_status, answer_results, answer_space, given_status, given_results, given_bytes}
 use Rattle.host.specs.Results.{sheet_status, sheet_results}
@@ -45,13 +44,13 @@ pub record AnswerGiven (b q : List ℕ) (serial : ℕ) (space results : List ℕ
 
 pub record BytesGiven (p : Printed) (after before results : List ℕ) : Type 0 where
   -- status 0 exactly where they were given and there is a place for the result: how many they are
-  pub done : (given_status p results ≡ 0) ↔ ((1 ≤ length results) × ((n : ℕ) × (p ≡ Bytes n)))
-  pub count : 1 ≤ length results → (n : ℕ) → p ≡ Bytes n → get_or (given_results p results) 0 0 ≡ n
+  pub done : (given_status p results ≡ 0) ↔ ((1 ≤ length results) × ((n : ℕ) × (p ≡ Ok n)))
+  pub count : 1 ≤ length results → (n : ℕ) → p ≡ Ok n → get_or (given_results p results) 0 0 ≡ n
   pub bytes : 1 ≤ length results → given_bytes after before results ≡ after
   -- too few lent bytes: status 1
-  pub no_room : p ≡ NoRoom → (given_status p results ≡ 1) × (given_results p results ≡ results)
+  pub no_room : p ≡ Err NoRoom → (given_status p results ≡ 1) × (given_results p results ≡ results)
   -- nothing that could be given: status 2
-  pub not_fit : 1 ≤ length results → p ≡ NotFit → (given_status p results ≡ 2) × (given_results p results ≡ results)
+  pub not_fit : 1 ≤ length results → p ≡ Err NotFit → (given_status p results ≡ 2) × (given_results p results ≡ results)
   -- no place for the result: status 1, and nothing is changed
   pub short : length results < 1
       → (given_status p results ≡ 1)

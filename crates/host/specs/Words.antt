@@ -1,9 +1,8 @@
 -- A few words for each number of the fixed list of refusals, as bytes. `docs/REFUSALS.md` has the same table.
 -- Assumes nothing.
-use Rattle.std.specs.Prelude.{Bool, true, false, List, [], ◌∷◌, ℕ, ltb, length, get_or}
-use Rattle.printout.specs.Printing.{printed, after}
-use Rattle.printout.specs.declared.Printed.{Printed}
-use Rattle.printout.specs.declared.Printed.TheVariants.{NotFit}
+use Rattle.std.specs.Prelude.{Err, Bool, true, false, List, [], ◌∷◌, ℕ, ltb, length, get_or}
+use Rattle.printout.specs.Printing.{Printed, printed, after}
+use Rattle.printout.specs.declared.Unprinted.TheVariants.{NotFit}
 
 -- from number 0 on; a number that no refusal has has none
 unfoldable pub words : List (List ℕ)
@@ -60,7 +59,7 @@ has_words n = ltb 0 (length (words_of n))
 
 -- the words printed, where the number is that of a refusal
 unfoldable pub words_printed : ℕ → List ℕ → Printed
-words_printed n out = elim (has_words n) [ true ↦ printed (words_of n) out | false ↦ NotFit ]
+words_printed n out = elim (has_words n) [ true ↦ printed (words_of n) out | false ↦ Err NotFit ]
 
 unfoldable pub words_after : ℕ → List ℕ → List ℕ
 words_after n out = elim (has_words n) [ true ↦ after (words_of n) out | false ↦ out ]

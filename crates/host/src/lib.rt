@@ -3,15 +3,17 @@
 // says that nothing was changed.
 #![tactic(auto)]
 
-ghost use Rattle.std.specs.Prelude.{◌≡◌, ◌≤◌, length};
+ghost use Rattle.std.specs.Prelude.{◌≡◌, ◌≤◌, Err, length};
+ghost use Rattle.refusals.specs.Refusals.{number_of};
 ghost use Rattle.host.specs.Results.{answer_status, answer_results, answer_space, give_status, give_results};
 ghost use Rattle.host.specs.Results.{given_status, given_results, given_bytes, sheet_status, sheet_results};
-ghost use Rattle.host.specs.Words.{words_printed, words_after};
+ghost use Rattle.host.specs.Words.{words_of, words_printed, words_after};
 ghost use Rattle.printout.specs.Printing.{printed, after, answer_printed, after_answer};
 ghost use Rattle.run.specs.Items.{item_kinds_of};
 ghost use Rattle.sheets.specs.Sheets.{sheet_count, sheet_number, after_sheet};
 
-use printout::Printed;
+use printout::Unprinted;
+use refusals::Refusal;
 
 // Statuses: done; lent cells or bytes are too few; nothing that could be printed.
 const DONE: u32 = 0;
@@ -39,26 +41,36 @@ pub fn vingarbu_answer(
         return SHORT;
     }
     let a = answer::answer_bytes(book, query, serial, space);
-    results[0] = u64::from(a.refusal);
+    results[0] = u64::from(refusals::number(a.refusal));
     results[1] = a.rows as u64;
     results[2] = u64::from(a.serial);
     results[3] = a.read as u64;
     DONE
 }
 
+// Why no bytes were given, as a status.
+#[tactic(auto, unfolding(crate::specs::Results::give_status))]
+fn status_of(reason: Unprinted) -> u32
+    ensures { result ≡ give_status (Err reason) }
+{
+    match reason {
+        Unprinted::NoRoom => SHORT,
+        Unprinted::NotFit => NOT_FIT,
+    }
+}
+
 // What was given as bytes, as a status; how many bytes they are is the result.
-fn report(p: Printed, results: &mut [u64]) -> u32
+fn report(p: Result<usize, Unprinted>, results: &mut [u64]) -> u32
     requires { 1 ≤ length results.old }
     ensures value { result ≡ give_status p }
     ensures results_after { results.new ≡ give_results p results.old }
 {
     match p {
-        Printed::Bytes(n) => {
+        Ok(n) => {
             results[0] = n as u64;
             DONE
         }
-        Printed::NoRoom => SHORT,
-        Printed::NotFit => NOT_FIT,
+        Err(reason) => status_of(reason),
     }
 }
 
@@ -106,30 +118,40 @@ pub fn vingarbu_print(
     report(p, results)
 }
 
-// Prints the words for the number of a refusal; there are none for any other number. The table is in docs/REFUSALS.md.
-fn print_words(number: u32, out: &mut [u8]) -> Printed
+// The words for a refusal. The table is in docs/REFUSALS.md.
+#[tactic(auto, unfolding(crate::specs::Words::words))]
+fn words_for(refusal: Refusal) -> &'static [u8]
+    ensures { result.now ≡ words_of (number_of refusal) }
+{
+    match refusal {
+        Refusal::TooManyBytes => b"too many bytes",
+        Refusal::KindNotAllowed => b"kind not allowed",
+        Refusal::CutShort => b"record cut short",
+        Refusal::TooManyOfItsKind => b"too many of its kind",
+        Refusal::OutOfRange => b"field out of range",
+        Refusal::DeclaredAlready => b"declared already",
+        Refusal::NotDeclared => b"not declared",
+        Refusal::CyclicMaximalObject => b"cycle in a maximal object",
+        Refusal::NoItem => b"no item",
+        Refusal::OperatorNotAllowed => b"operator not allowed",
+        Refusal::NoConnection => b"no connection",
+        Refusal::SpaceTooSmall => b"space too small",
+        Refusal::LastSerialNumber => b"last serial number",
+        Refusal::SheetNotPrintable => b"sheet cannot be printed",
+        Refusal::NoSuchSheet => b"no such sheet number",
+        Refusal::WrongComparisonTable => b"wrong comparison table",
+        Refusal::RemovedWithOnlyDeclared => b"kinds 6 and 14 together",
+    }
+}
+
+// Prints the words for the number of a refusal; there are none for any other number.
+fn print_words(number: u32, out: &mut [u8]) -> Result<usize, Unprinted>
     ensures value { result ≡ words_printed number out.old }
     ensures out_after { out.new ≡ words_after number out.old }
 {
-    match number {
-        1 => printout::print_text(b"too many bytes", out),
-        2 => printout::print_text(b"kind not allowed", out),
-        3 => printout::print_text(b"record cut short", out),
-        4 => printout::print_text(b"too many of its kind", out),
-        5 => printout::print_text(b"field out of range", out),
-        6 => printout::print_text(b"declared already", out),
-        7 => printout::print_text(b"not declared", out),
-        9 => printout::print_text(b"cycle in a maximal object", out),
-        10 => printout::print_text(b"no item", out),
-        11 => printout::print_text(b"operator not allowed", out),
-        12 => printout::print_text(b"no connection", out),
-        13 => printout::print_text(b"space too small", out),
-        14 => printout::print_text(b"last serial number", out),
-        18 => printout::print_text(b"sheet cannot be printed", out),
-        19 => printout::print_text(b"no such sheet number", out),
-        20 => printout::print_text(b"wrong comparison table", out),
-        21 => printout::print_text(b"kinds 6 and 14 together", out),
-        _ => Printed::NotFit,
+    match Refusal::from_number(number) {
+        Some(refusal) => printout::print_text(words_for(refusal), out),
+        None => Err(Unprinted::NotFit),
     }
 }
 
@@ -168,8 +190,8 @@ pub fn vingarbu_sheet(
     if results.len() < 1 {
         return SHORT;
     }
-    let refusal = sheets::sheet(serial, rows as usize, kinds, cells, number, out);
-    results[0] = u64::from(refusal);
+    let refusal = sheets::sheet(serial, rows as usize, kinds, cells, number, out).err();
+    results[0] = u64::from(refusals::number(refusal));
     DONE
 }
 

@@ -1,98 +1,25 @@
--- What the tests of an answer that is fit to print keep, and how a turn carries it on.
--- In order: kinds, the cells of a row, the whole, fit to print as the paper has it and as the tests have it.
+-- What the tests of an answer that is fit to print say.
+-- In order: the whole, fit to print as the paper has it and as the tests have it.
 -- Not here: the rows (`Rows`).
 -- Assumes nothing.
 use mathlib.Core.Path.{◌≡◌, refl, sym, ap, subst, ◌∙◌}
-use mathlib.Core.Bool.{Bool, true, false, ◌&&◌}
+use mathlib.Core.Bool.{Bool, true, false}
 use mathlib.Core.List.{List, [], ◌∷◌}
+use mathlib.Core.Logic.{◌↔◌}
 use Prim.Native.Nat.{ℕ, zero, suc, ◌+◌, ◌*◌, ◌≤◌, ◌<◌}
 use native.Mathlib.Nat.{le_of_eq, lt_of_le_of_lt, mul-le-mul}
-use native.Mathlib.Numerals.{add-one}
 use native.Mathlib.Omega.{arith}
 use borrow.Author.Tests as Tests
 use mir.Syntax.{w64}
 use mir.Val.{Fits}
 use lib.Dec.{ltb, leb}
-use lib.ListN.{length, get_or, drop, replicate, drop_of_length-le, length-drop, length-replicate, get_or-replicate}
-use lib.Seq.{drop-cons, get_or-take, get_or-drop, length-take-le}
-use Rattle.sets.proofs.Tests.{and_yes, yes_and}
+use lib.ListN.{length, get_or, drop, replicate, length-drop, length-replicate, get_or-replicate}
+use lib.Seq.{get_or-take, get_or-drop, length-take-le}
+use Rattle.sets.proofs.Tests.{and_yes, yes_and, not_yes, yes_no}
 use Rattle.values.specs.Values.{missing, in_range}
 use Rattle.sorted.specs.Rows.{Row, rows_in}
 use Rattle.sorted.proofs.Halving.{row_of_law, row_inside, length_rows}
 use Rattle.printout.specs.Lines.{FitToPrint, all_known, row_fits, rows_fit, fits}
-
--- ---- kinds
-
--- the kinds before i are known
-pub record KnownSoFar (kinds : List ℕ) (i : ℕ) : Type 0 where
-  pub inside : i ≤ length kinds
-  pub rest : all_known (drop i kinds) ≡ all_known kinds
-
-pub known_start : (kinds : List ℕ) → KnownSoFar kinds 0
-known_start kinds = record { inside = omega arith; rest = refl }
-
-module _ (kinds : List ℕ) {i : ℕ} (v : KnownSoFar kinds i) where
-  module _ (h : i < length kinds) where
-    -- the next kind in front of the rest
-    known_front : (ltb (get_or kinds i 0) 4 && all_known (drop (i + 1) kinds)) ≡ all_known kinds
-    unfolding all_known
-    known_front =
-        ap (λ (n : ℕ). ltb (get_or kinds i 0) 4 && all_known (drop n kinds)) (add-one i)
-        ∙ sym (rw (drop-cons kinds i 0 h) refl) ∙ v.rest
-
-    pub known_no : 3 < get_or kinds i 0 → false ≡ all_known kinds
-    known_no f =
-        sym (ap (λ (t : Bool). t && all_known (drop (i + 1) kinds)) (Tests.le-ltb (get_or kinds i 0) 4 (omega arith)))
-        ∙ known_front
-
-    pub known_next : get_or kinds i 0 ≤ 3 → KnownSoFar kinds (i + 1)
-    known_next k = record {
-      inside = omega arith;
-      rest =
-          sym (ap (λ (t : Bool). t && all_known (drop (i + 1) kinds)) (Tests.lt-ltb (get_or kinds i 0) 4 (omega arith)))
-          ∙ known_front;
-    }
-
-  pub known_end : length kinds ≤ i → true ≡ all_known kinds
-  unfolding all_known
-  known_end h = ap all_known (sym (drop_of_length-le kinds h)) ∙ v.rest
-
--- ---- the cells of a row
-
--- the cells before i are in their kinds' ranges
-pub record FitSoFar (kinds : List ℕ) (row : Row) (i : ℕ) : Type 0 where
-  pub inside : i ≤ length kinds
-  pub rest : row_fits (drop i kinds) (drop i row) ≡ row_fits kinds row
-
-pub fit_start : (kinds : List ℕ) (row : Row) → FitSoFar kinds row 0
-fit_start kinds row = record { inside = omega arith; rest = refl }
-
-module _ (kinds : List ℕ) (row : Row) {i : ℕ} (v : FitSoFar kinds row i) where
-  module _ (h : i < length kinds) (wide : length kinds ≤ length row) where
-    -- the next cell in front of the rest
-    fit_front : (in_range (get_or kinds i 0) (get_or row i 0) && row_fits (drop (i + 1) kinds) (drop (i + 1) row))
-        ≡ row_fits kinds row
-    unfolding row_fits
-    fit_front =
-        ap (λ (n : ℕ). in_range (get_or kinds i 0) (get_or row i 0) && row_fits (drop n kinds) (drop n row)) (add-one i)
-        ∙ sym (rw (drop-cons kinds i 0 h, drop-cons row i 0 (omega arith)) refl) ∙ v.rest
-
-    module _ {t : Bool} (e : t ≡ in_range (get_or kinds i 0) (get_or row i 0)) where
-      fit_tested : (t && row_fits (drop (i + 1) kinds) (drop (i + 1) row)) ≡ row_fits kinds row
-      fit_tested = ap (λ (s : Bool). s && row_fits (drop (i + 1) kinds) (drop (i + 1) row)) e ∙ fit_front
-
-      pub fit_no : t ≡ false → false ≡ row_fits kinds row
-      fit_no n = sym (ap (λ (s : Bool). s && row_fits (drop (i + 1) kinds) (drop (i + 1) row)) n) ∙ fit_tested
-
-      pub fit_next : t ≡ true → FitSoFar kinds row (i + 1)
-      fit_next y = record {
-        inside = omega arith;
-        rest = sym (ap (λ (s : Bool). s && row_fits (drop (i + 1) kinds) (drop (i + 1) row)) y) ∙ fit_tested;
-      }
-
-  pub fit_end : length kinds ≤ i → true ≡ row_fits kinds row
-  unfolding row_fits
-  fit_end h = ap (λ (l : List ℕ). row_fits l (drop i row)) (sym (drop_of_length-le kinds h)) ∙ v.rest
 
 -- ---- the whole, test by test as the code makes them
 
@@ -194,6 +121,21 @@ unfolding rows_fit
 each_rows kinds [] f = refl
 each_rows kinds (r ∷ l) f =
     and_yes (f 0 (omega arith)) (each_rows kinds l (λ i h. f (suc i) (omega (arith, h))))
+
+-- as the code tests them
+same_truth : {s t : Bool} → (s ≡ true → t ≡ true) → (t ≡ true → s ≡ true) → s ≡ t
+same_truth {s = true} f g = sym (f refl)
+same_truth {s = false} f g = sym (not_yes (λ y. yes_no (g y) refl))
+
+pub known_decided : (kinds : List ℕ) {t : Bool} → (t ≡ true) ↔ ((j : ℕ) → j < length kinds → get_or kinds j 0 < 4)
+    → t ≡ all_known kinds
+known_decided kinds h = same_truth (λ y. each_known kinds (h.0 y)) (λ y. h.1 (known_each kinds y))
+
+pub row_decided : (kinds : List ℕ) (row : Row) {t : Bool} → length kinds ≤ length row
+    → (t ≡ true) ↔ ((j : ℕ) → j < length kinds → in_range (get_or kinds j 0) (get_or row j 0) ≡ true)
+    → t ≡ row_fits kinds row
+row_decided kinds row w h =
+    same_truth (λ y. each_row kinds row (h.0 y)) (λ y. h.1 (row_each kinds row y w))
 
 module _ (rows : ℕ) (kinds cells : List ℕ) where
   -- the cell of row i under item j

@@ -1,20 +1,22 @@
 -- Rows written and counted, cell by cell and row by row.
--- In order: marks, the line of a row, a row written, a row counted, rows left, written, counted and tested.
+-- In order: marks, the line of a row, a row written, a row counted, the rows from one on, written, counted and tested.
 -- Assumes nothing.
 use mathlib.Core.Path.{◌≡◌, refl, sym, ap, ap₂, subst, ◌∙◌}
 use mathlib.Core.Bool.{Bool, true, false, cond, ◌&&◌}
 use mathlib.Core.Logic.{⊎_elim}
 use mathlib.Core.List.{List, [], ◌∷◌, ◌++◌}
-use Prim.Native.Nat.{ℕ, zero, suc, ◌+◌, ◌-◌, ◌*◌, ◌≤◌, ◌<◌}
-use native.Mathlib.Nat.{suc-mul, add-sub_cancel_left}
+use Prim.Native.Nat.{ℕ, suc, ◌+◌, ◌-◌, ◌*◌, ◌≤◌, ◌<◌}
+use native.Mathlib.Nat.{add-sub_cancel_left}
 use native.Mathlib.Numerals.{add-one}
 use native.Mathlib.Omega.{arith}
 use borrow.Author.Tests as Tests
 use lib.Dec.{ltb}
 use lib.ListN.{length, get_or, take, drop, drop_of_length-le, length-append, length-drop}
-use lib.Seq.{drop-cons, drop-drop, length-take-le}
+use lib.Seq.{drop-cons, length-take-le}
 use Rattle.sets.proofs.Numbers.{lt_or_le}
 use Rattle.sorted.specs.Rows.{Row, rows_in}
+use Rattle.sorted.proofs.Halving as Halving
+use Rattle.sorted.proofs.Halving.{row_of_law, length_rows}
 use Rattle.printout.specs.Decimal.{cell_text}
 use Rattle.printout.specs.Lines.{behind, line, cell_texts, row_line, row_lines, row_fits, rows_fit}
 use Rattle.printout.specs.Printing.{written}
@@ -129,157 +131,134 @@ module _ (kinds : List ℕ) (row : Row) {n i : ℕ} (v : RowCounted kinds row n 
   row_counted_end h k =
       (omega (arith, v.sum, ap length (row_none kinds row i h)), omega (arith, v.few, v.inside))
 
--- ---- rows left
+-- ---- the rows from row i on
 
-module _ (w from : ℕ) (cells : List ℕ) where
-  -- the part of the cells that holds the next row
-  abbrev row_part : Row
-  row_part = take (from + w - from) (drop from cells)
+module _ (w : ℕ) (cells : List ℕ) (i : ℕ) where
+  -- the part of the cells that holds row i
+  abbrev pub row_part : Row
+  row_part = take (i * w + w - i * w) (drop (i * w) cells)
 
-  -- the next row in front of the rest
-  pub rows_left : (left : ℕ) → 0 < left
-      → rows_in w left (drop from cells) ≡ row_part ∷ rows_in w (left - 1) (drop (from + w) cells)
-  unfolding rows_in
-  rows_left zero h = absurd (omega (arith, h))
-  rows_left (suc n) h =
-      ap₂ (λ (r : Row) (l : List Row). r ∷ l)
-      (ap (λ (m : ℕ). take m (drop from cells)) (sym (add-sub_cancel_left from w)))
-      (ap₂ (λ (m : ℕ) (c : List ℕ). rows_in w m c) fewer (drop-drop w from cells))
-    where
-      fewer : n ≡ suc n - 1
-      fewer = omega arith
+  module _ (rows : ℕ) (h : i < rows) where
+    -- row i in front of the others
+    pub rows_front : drop i (rows_in w rows cells) ≡ row_part ∷ drop (i + 1) (rows_in w rows cells)
+    rows_front =
+        drop-cons (rows_in w rows cells) i [] (omega (arith, h, length_rows w rows cells))
+        ∙ ap₂ (λ (r : Row) (m : ℕ). r ∷ drop m (rows_in w rows cells))
+        (row_of_law w rows cells i h ∙ ap (λ (m : ℕ). take m (drop (i * w) cells)) (sym (add-sub_cancel_left (i * w) w)))
+        (sym (add-one i))
 
-  module _ (left : ℕ) (h : 0 < left) (f : from + left * w ≤ length cells) where
-    -- the cells of the next row and of the rest
-    pub rest_inside : from + w + (left - 1) * w ≤ length cells
-    rest_inside = omega (arith, f, suc-mul (left - 1) w, ap (λ (n : ℕ). n * w) more)
-      where
-        more : suc (left - 1) ≡ left
-        more = omega arith
+    module _ (f : rows * w ≤ length cells) where
+      pub row_inside : i * w + w ≤ length cells
+      row_inside = Halving.row_inside i rows w h f
 
-    pub next_inside : from + w ≤ length cells
-    next_inside = omega (arith, rest_inside)
+      pub part_length : length row_part ≡ w
+      part_length =
+          length-take-le (i * w + w - i * w) (drop (i * w) cells) (omega (arith, length-drop (i * w) cells, row_inside))
+          ∙ add-sub_cancel_left (i * w) w
 
-    pub part_length : length row_part ≡ w
-    part_length =
-        length-take-le (from + w - from) (drop from cells) (omega (arith, length-drop from cells, next_inside))
-        ∙ add-sub_cancel_left from w
+-- behind the last row there is none
+pub rows_none : (w : ℕ) (cells : List ℕ) (i rows : ℕ) → rows ≤ i → drop i (rows_in w rows cells) ≡ []
+rows_none w cells i rows h = drop_of_length-le (rows_in w rows cells) (omega (arith, h, length_rows w rows cells))
 
 -- ---- rows written
 
--- the lines of the rows left
+-- the lines of the rows from row i on
 abbrev pub lines_left : List ℕ → List ℕ → ℕ → ℕ → List ℕ
-lines_left kinds cells from left = row_lines kinds (rows_in (length kinds) left (drop from cells))
+lines_left kinds cells rows i = row_lines kinds (drop i (rows_in (length kinds) rows cells))
 
-module _ (kinds cells : List ℕ) (from left : ℕ) where
-  module _ (h : 0 < left) where
-    lines_front : lines_left kinds cells from left
-        ≡ row_line kinds (row_part (length kinds) from cells) ++ lines_left kinds cells (from + length kinds) (left - 1)
+module _ (kinds cells : List ℕ) (rows i : ℕ) where
+  -- the line of row i
+  abbrev line_here : List ℕ
+  line_here = row_line kinds (row_part (length kinds) cells i)
+
+  module _ (h : i < rows) where
+    lines_front : lines_left kinds cells rows i ≡ line_here ++ lines_left kinds cells rows (i + 1)
     unfolding row_lines
-    lines_front = rw (rows_left (length kinds) from cells left h)
+    lines_front = rw (rows_front (length kinds) cells i rows h)
 
     module _ (start : ℕ) (text e : List ℕ) {at : ℕ} {bytes : List ℕ}
-        (v : Writing start text e at (lines_left kinds cells from left) bytes) where
-      pub row_room : at + length (row_line kinds (row_part (length kinds) from cells)) ≤ length bytes
+        (v : Writing start text e at (lines_left kinds cells rows i) bytes) where
+      pub row_room : at + length line_here ≤ length bytes
       row_room =
           omega (
             arith,
             writing_room start text e v,
             ap length lines_front,
-            length-append (row_line kinds (row_part (length kinds) from cells))
-                (lines_left kinds cells (from + length kinds) (left - 1)),
+            length-append line_here (lines_left kinds cells rows (i + 1)),
           )
 
-      pub row_written : {to : ℕ} {out : List ℕ}
-          → to ≡ at + length (row_line kinds (row_part (length kinds) from cells))
-          → out ≡ written at (row_line kinds (row_part (length kinds) from cells)) bytes
-          → Writing start text e to (lines_left kinds cells (from + length kinds) (left - 1)) out
+      pub row_written : {to : ℕ} {out : List ℕ} → to ≡ at + length line_here → out ≡ written at line_here bytes
+          → Writing start text e to (lines_left kinds cells rows (i + 1)) out
       row_written p w =
-          writing_next start text e v (row_line kinds (row_part (length kinds) from cells))
-          (lines_left kinds cells (from + length kinds) (left - 1)) lines_front p w
+          writing_next start text e v line_here (lines_left kinds cells rows (i + 1)) lines_front p w
 
-  no_lines : left ≤ 0 → lines_left kinds cells from left ≡ []
-  unfolding row_lines rows_in
-  no_lines h = ap (lines_left kinds cells from) none
-    where
-      none : left ≡ 0
-      none = omega arith
+  module _ (h : rows ≤ i) where
+    no_lines : lines_left kinds cells rows i ≡ []
+    unfolding row_lines
+    no_lines = ap (row_lines kinds) (rows_none (length kinds) cells i rows h)
 
-  pub rows_written : (start : ℕ) (text e : List ℕ) {at : ℕ} {bytes : List ℕ}
-      → Writing start text e at (lines_left kinds cells from left) bytes → left ≤ 0
-      → (at ≡ start + length text) × (bytes ≡ written start text e)
-  rows_written start text e {at} {bytes} v h =
-      writing_end start text e (subst (λ (l : List ℕ). Writing start text e at l bytes) (no_lines h) v)
+    pub rows_written : (start : ℕ) (text e : List ℕ) {at : ℕ} {bytes : List ℕ}
+        → Writing start text e at (lines_left kinds cells rows i) bytes
+        → (at ≡ start + length text) × (bytes ≡ written start text e)
+    rows_written start text e {at} {bytes} v =
+        writing_end start text e (subst (λ (l : List ℕ). Writing start text e at l bytes) no_lines v)
 
 -- ---- rows counted
 
--- n counts the bytes of the lines before those of the rows left
-pub record RowsCounted (kinds cells : List ℕ) (rows from left n : ℕ) : Type 0 where
-  pub sum : n + length (lines_left kinds cells from left) ≡ length (lines_left kinds cells 0 rows)
-  pub few : n + 96 * left ≤ 96 * rows
-  pub inside : from + left * length kinds ≤ length cells
+-- n counts the bytes of the lines before that of row i
+pub record RowsCounted (kinds cells : List ℕ) (rows i n : ℕ) : Type 0 where
+  pub sum : n + length (lines_left kinds cells rows i) ≡ length (lines_left kinds cells rows 0)
+  pub few : n ≤ 96 * i
 
-pub rows_counted_start : (kinds cells : List ℕ) (rows : ℕ) → rows * length kinds ≤ length cells
-    → RowsCounted kinds cells rows 0 rows 0
-rows_counted_start kinds cells rows f = record { sum = omega arith; few = omega arith; inside = omega arith }
+pub rows_counted_start : (kinds cells : List ℕ) (rows : ℕ) → RowsCounted kinds cells rows 0 0
+rows_counted_start kinds cells rows = record { sum = omega arith; few = omega arith }
 
-module _ (kinds cells : List ℕ) {rows from left n : ℕ} (v : RowsCounted kinds cells rows from left n) where
-  pub rows_counted_next : {m : ℕ} → 0 < left
-      → (m ≡ length (row_line kinds (row_part (length kinds) from cells))) × (m ≤ 96)
-      → RowsCounted kinds cells rows (from + length kinds) (left - 1) (n + m)
+module _ (kinds cells : List ℕ) {rows i n : ℕ} (v : RowsCounted kinds cells rows i n) where
+  pub rows_counted_next : {m : ℕ} → i < rows → (m ≡ length (line_here kinds cells rows i)) × (m ≤ 96)
+      → RowsCounted kinds cells rows (i + 1) (n + m)
   rows_counted_next h p = record {
     sum = omega (
       arith,
       v.sum,
       p,
-      ap length (lines_front kinds cells from left h),
-      length-append (row_line kinds (row_part (length kinds) from cells))
-          (lines_left kinds cells (from + length kinds) (left - 1)),
+      ap length (lines_front kinds cells rows i h),
+      length-append (line_here kinds cells rows i) (lines_left kinds cells rows (i + 1)),
     );
     few = omega (arith, v.few, p);
-    inside = rest_inside (length kinds) from cells left h v.inside;
   }
 
-  pub rows_counted_end : left ≤ 0 → rows ≤ 999_999_999_999
-      → (n ≡ length (lines_left kinds cells 0 rows)) × (n ≤ 96 * 999_999_999_999)
-  rows_counted_end h k =
-      (omega (arith, v.sum, ap length (no_lines kinds cells from left h)), omega (arith, v.few))
+  pub rows_counted_end : rows ≤ i → i ≤ rows → rows ≤ 999_999_999_999
+      → (n ≡ length (lines_left kinds cells rows 0)) × (n ≤ 96 * 999_999_999_999)
+  rows_counted_end h l k =
+      (omega (arith, v.sum, ap length (no_lines kinds cells rows i h)), omega (arith, v.few, l, k))
 
 -- ---- rows tested
 
--- the rows before those left are fit to print
-pub record RowsFitSoFar (kinds cells : List ℕ) (rows from left : ℕ) : Type 0 where
-  pub rest : rows_fit kinds (rows_in (length kinds) left (drop from cells))
+-- the rows before row i are fit to print
+pub record RowsFitSoFar (kinds cells : List ℕ) (rows i : ℕ) : Type 0 where
+  pub rest : rows_fit kinds (drop i (rows_in (length kinds) rows cells))
       ≡ rows_fit kinds (rows_in (length kinds) rows cells)
-  pub inside : from + left * length kinds ≤ length cells
 
-pub rows_fit_start : (kinds cells : List ℕ) (rows : ℕ) → rows * length kinds ≤ length cells
-    → RowsFitSoFar kinds cells rows 0 rows
-rows_fit_start kinds cells rows f = record { rest = refl; inside = omega arith }
+pub rows_fit_start : (kinds cells : List ℕ) (rows : ℕ) → RowsFitSoFar kinds cells rows 0
+rows_fit_start kinds cells rows = record { rest = refl }
 
-module _ (kinds cells : List ℕ) {rows from left : ℕ} (v : RowsFitSoFar kinds cells rows from left) where
-  module _ (h : 0 < left) {t : Bool} (e : t ≡ row_fits kinds (row_part (length kinds) from cells)) where
+module _ (kinds cells : List ℕ) {rows i : ℕ} (v : RowsFitSoFar kinds cells rows i) where
+  module _ (h : i < rows) {t : Bool} (e : t ≡ row_fits kinds (row_part (length kinds) cells i)) where
     abbrev rest_fits : Bool
-    rest_fits = rows_fit kinds (rows_in (length kinds) (left - 1) (drop (from + length kinds) cells))
+    rest_fits = rows_fit kinds (drop (i + 1) (rows_in (length kinds) rows cells))
 
     row_tested : (t && rest_fits) ≡ rows_fit kinds (rows_in (length kinds) rows cells)
     unfolding rows_fit
     row_tested =
-        ap (λ (s : Bool). s && rest_fits) e ∙ ap (rows_fit kinds) (sym (rows_left (length kinds) from cells left h))
+        ap (λ (s : Bool). s && rest_fits) e ∙ ap (rows_fit kinds) (sym (rows_front (length kinds) cells i rows h))
         ∙ v.rest
 
     pub rows_fit_no : t ≡ false → false ≡ rows_fit kinds (rows_in (length kinds) rows cells)
     rows_fit_no n = sym (ap (λ (s : Bool). s && rest_fits) n) ∙ row_tested
 
-    pub rows_fit_next : t ≡ true → RowsFitSoFar kinds cells rows (from + length kinds) (left - 1)
-    rows_fit_next y = record {
-      rest = sym (ap (λ (s : Bool). s && rest_fits) y) ∙ row_tested;
-      inside = rest_inside (length kinds) from cells left h v.inside;
-    }
+    pub rows_fit_next : t ≡ true → RowsFitSoFar kinds cells rows (i + 1)
+    rows_fit_next y = record { rest = sym (ap (λ (s : Bool). s && rest_fits) y) ∙ row_tested }
 
-  pub rows_fit_end : left ≤ 0 → true ≡ rows_fit kinds (rows_in (length kinds) rows cells)
-  unfolding rows_fit rows_in
-  rows_fit_end h = ap (λ (n : ℕ). rows_fit kinds (rows_in (length kinds) n (drop from cells))) none ∙ v.rest
-    where
-      none : 0 ≡ left
-      none = omega arith
+  pub rows_fit_end : rows ≤ i → true ≡ rows_fit kinds (rows_in (length kinds) rows cells)
+  unfolding rows_fit
+  rows_fit_end h = sym (ap (rows_fit kinds) (rows_none (length kinds) cells i rows h)) ∙ v.rest

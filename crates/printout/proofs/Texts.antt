@@ -1,7 +1,7 @@
 -- Whole texts: the head line, and an answer or a refusal printed, the whole of it or nothing.
 -- In order: two texts, one behind the other, the head line, a text printed, refusals, an answer.
 -- Assumes nothing.
-use mathlib.Core.Path.{◌≡◌, refl, sym, ap, ◌∙◌}
+use mathlib.Core.Path.{◌≡◌, refl, sym, ap, subst, ◌∙◌}
 use mathlib.Core.Bool.{Bool, true, false}
 use mathlib.Core.List.{List, [], ◌∷◌, ◌++◌, append-nil}
 use Prim.Native.Nat.{ℕ, ◌+◌, ◌^◌, ◌≤◌, ◌<◌}
@@ -10,13 +10,13 @@ use native.Mathlib.Omega.{arith}
 use borrow.Author.Tests as Tests
 use lib.ListN.{length, drop, length-append}
 use Rattle.sets.proofs.Tests.{not_yes}
-use Rattle.printout.specs.declared.Printed.{Printed}
-use Rattle.printout.specs.declared.Printed.TheVariants.{Bytes, NoRoom, NotFit}
+use Rattle.std.specs.Prelude.{Ok, Err}
+use Rattle.printout.specs.declared.Unprinted.TheVariants.{NoRoom, NotFit}
 use Rattle.printout.specs.Decimal.{decimal}
 use Rattle.sorted.specs.Rows.{rows_in}
 use Rattle.printout.specs.Lines.{behind, line, head_line, row_lines, answer_text, book_refused, query_refused}
 use Rattle.printout.specs.Lines.{FitToPrint, fits}
-use Rattle.printout.specs.Printing.{written, printed, after, answer_printed, after_answer}
+use Rattle.printout.specs.Printing.{written, Printed, printed, after, answer_printed, after_answer}
 use Rattle.printout.specs.Statements.{TextPrinted, AnswerPrinted}
 use Rattle.printout.proofs.Fit.{fits_fit, fit_fits}
 use Rattle.printout.proofs.Writing.{Writing, writing_start, writing_room, writing_next, writing_end}
@@ -100,7 +100,7 @@ module _ (serial rows : ℕ) {x : ℕ} (same : (x ≡ serial) × (x < 2 ^ 32)) w
 
 module _ (text bytes : List ℕ) where
   abbrev result : Bool → Printed
-  result t = elim t [ true ↦ Bytes (length text) | false ↦ NoRoom ]
+  result t = elim t [ true ↦ Ok (length text) | false ↦ Err NoRoom ]
 
   abbrev left : Bool → List ℕ
   left t = elim t [ true ↦ text ++ drop (length text) bytes | false ↦ bytes ]
@@ -114,14 +114,14 @@ module _ (text bytes : List ℕ) where
 
   -- as the code gives it
   pub whole_printed : length text ≤ length bytes → {n : ℕ} {out : List ℕ}
-      → (n ≡ 0 + length text) × (out ≡ written 0 text bytes) → (Bytes n ≡ printed text bytes) × (out ≡ after text bytes)
+      → (n ≡ 0 + length text) × (out ≡ written 0 text bytes) → (Ok n ≡ printed text bytes) × (out ≡ after text bytes)
   unfolding written
   whole_printed h p = (
-    ap Bytes (p.0 ∙ zero-add (length text)) ∙ sym (text_printed.whole h).0,
+    ap Ok (p.0 ∙ zero-add (length text)) ∙ sym (text_printed.whole h).0,
     p.1 ∙ ap (λ (n : ℕ). text ++ drop n bytes) (zero-add (length text)) ∙ sym (text_printed.whole h).1,
   )
 
-  pub none_printed : length bytes < length text → (NoRoom ≡ printed text bytes) × (bytes ≡ after text bytes)
+  pub none_printed : length bytes < length text → (Err NoRoom ≡ printed text bytes) × (bytes ≡ after text bytes)
   none_printed h = (sym (text_printed.no_room h).0, sym (text_printed.no_room h).1)
 
 -- ---- refusals
@@ -141,7 +141,7 @@ module _ (words : List ℕ) (number : ℕ) (e : List ℕ) {m : ℕ} (p : m ≡ l
   refusal_length =
       omega (arith, p, length-append (words ++ decimal number) (10 ∷ []), length-append words (decimal number))
 
-  pub refusal_none : length e < length words + m + 1 → (NoRoom ≡ printed refusal e) × (e ≡ after refusal e)
+  pub refusal_none : length e < length words + m + 1 → (Err NoRoom ≡ printed refusal e) × (e ≡ after refusal e)
   refusal_none h = none_printed refusal e (omega (arith, refusal_length))
 
   module _ (h : length words + m + 1 ≤ length e) where
@@ -157,10 +157,17 @@ module _ (words : List ℕ) (number : ℕ) (e : List ℕ) {m : ℕ} (p : m ≡ l
       line_room = omega (arith, second_room 0 (words ++ decimal number) (10 ∷ []) e (omega (arith, refusal_fits)) q w)
 
       pub refusal_written : {to : ℕ} {out : List ℕ} → to ≡ at + 1 → out ≡ written at (10 ∷ []) mid
-          → (Bytes to ≡ printed refusal e) × (out ≡ after refusal e)
+          → (Ok to ≡ printed refusal e) × (out ≡ after refusal e)
       refusal_written r u =
           whole_printed refusal e refusal_fits
           (both_written 0 (words ++ decimal number) (10 ∷ []) e (omega (arith, refusal_fits)) q w r u)
+
+-- what holds of the number as the code has it, x, holds of it
+pub of_number : (words e : List ℕ) {x number : ℕ} → x ≡ number → {r : Printed} {out : List ℕ}
+    → (r ≡ printed (words ++ decimal x ++ 10 ∷ []) e) × (out ≡ after (words ++ decimal x ++ 10 ∷ []) e)
+    → (r ≡ printed (words ++ decimal number ++ 10 ∷ []) e) × (out ≡ after (words ++ decimal number ++ 10 ∷ []) e)
+of_number words e s {r} {out} p =
+    subst (λ (n : ℕ). (r ≡ printed (words ++ decimal n ++ 10 ∷ []) e) × (out ≡ after (words ++ decimal n ++ 10 ∷ []) e)) s p
 
 -- the lines are the words and the number
 pub book_refused_law : (number : ℕ) (e : List ℕ) {r : Printed} {out : List ℕ}
@@ -188,15 +195,15 @@ module _ (serial rows : ℕ) (kinds cells e : List ℕ) where
       × (after_answer serial rows kinds cells e ≡ after text e)
   unfolding answer_printed after_answer
   fit_gives y = (
-    ap (λ (s : Bool). elim s [ true ↦ printed text e | false ↦ NotFit ]) y,
+    ap (λ (s : Bool). elim s [ true ↦ printed text e | false ↦ Err NotFit ]) y,
     ap (λ (s : Bool). elim s [ true ↦ after text e | false ↦ e ]) y,
   )
 
   unfit_gives : fits rows kinds cells ≡ false
-      → (answer_printed serial rows kinds cells e ≡ NotFit) × (after_answer serial rows kinds cells e ≡ e)
+      → (answer_printed serial rows kinds cells e ≡ Err NotFit) × (after_answer serial rows kinds cells e ≡ e)
   unfolding answer_printed after_answer
   unfit_gives n = (
-    ap (λ (s : Bool). elim s [ true ↦ printed text e | false ↦ NotFit ]) n,
+    ap (λ (s : Bool). elim s [ true ↦ printed text e | false ↦ Err NotFit ]) n,
     ap (λ (s : Bool). elim s [ true ↦ after text e | false ↦ e ]) n,
   )
 
@@ -212,7 +219,7 @@ module _ (serial rows : ℕ) (kinds cells e : List ℕ) {t : Bool} (f : t ≡ fi
   lines = row_lines kinds (rows_in (length kinds) rows cells)
 
   pub answer_not_fit : t ≡ false
-      → (NotFit ≡ answer_printed serial rows kinds cells e) × (e ≡ after_answer serial rows kinds cells e)
+      → (Err NotFit ≡ answer_printed serial rows kinds cells e) × (e ≡ after_answer serial rows kinds cells e)
   answer_not_fit n =
       let (a, b) = unfit_gives serial rows kinds cells e (sym f ∙ n) in (sym a, sym b)
 
@@ -233,7 +240,7 @@ module _ (serial rows : ℕ) (kinds cells e : List ℕ) {t : Bool} (f : t ≡ fi
       answer_length = omega (arith, p, q, length-append (head_line serial rows) lines)
 
       pub answer_none : length e < h + n
-          → (NoRoom ≡ answer_printed serial rows kinds cells e) × (e ≡ after_answer serial rows kinds cells e)
+          → (Err NoRoom ≡ answer_printed serial rows kinds cells e) × (e ≡ after_answer serial rows kinds cells e)
       answer_none l = fit_printed (none_printed (head_line serial rows ++ lines) e (omega (arith, answer_length)))
 
       module _ (l : h + n ≤ length e) where
@@ -246,7 +253,7 @@ module _ (serial rows : ℕ) (kinds cells e : List ℕ) {t : Bool} (f : t ≡ fi
           lines_room = second_room 0 (head_line serial rows) lines e whole r w
 
           pub answer_written : {to : ℕ} {out : List ℕ} → to ≡ at + length lines → out ≡ written at lines mid
-              → (Bytes to ≡ answer_printed serial rows kinds cells e) × (out ≡ after_answer serial rows kinds cells e)
+              → (Ok to ≡ answer_printed serial rows kinds cells e) × (out ≡ after_answer serial rows kinds cells e)
           answer_written s u =
               fit_printed (whole_printed (head_line serial rows ++ lines) e (omega (arith, whole))
               (both_written 0 (head_line serial rows) lines e whole r w s u))

@@ -1,15 +1,15 @@
 -- Bytes written in their place, one text behind the other.
--- In order: texts written, a text of which a part is written, bytes of a text, numbers, digits counted, cells.
+-- In order: texts written, a text of which a part is written, numbers, digits counted, cells.
 -- Assumes nothing.
-use mathlib.Core.Path.{◌≡◌, refl, sym, ap, ap₂, subst, ◌∙◌}
+use mathlib.Core.Path.{◌≡◌, refl, sym, ap, ap₂, ◌∙◌}
 use mathlib.Core.Bool.{Bool, true, false}
 use mathlib.Core.List.{List, [], ◌∷◌, ◌++◌, append_assoc, append-nil}
 use Prim.Native.Nat.{ℕ, ◌+◌, ◌-◌, ◌/◌, ◌%◌, ◌^◌, ◌≤◌, ◌<◌}
 use native.Mathlib.Nat.{add-zero}
 use native.Mathlib.Numerals.{add-one}
 use native.Mathlib.Omega.{arith}
-use lib.ListN.{length, take, drop, set, length-append, length-drop, take-append-drop, get_or, drop_of_length-le}
-use lib.Seq.{take_at, drop_at, length-take-le, drop-drop, set_split, drop-cons}
+use lib.ListN.{length, take, drop, set, length-append, length-drop, take-append-drop}
+use lib.Seq.{take_at, drop_at, length-take-le, drop-drop, set_split}
 use Rattle.values.specs.Values.{missing}
 use Rattle.printout.specs.Decimal.{decimal, value_text, cell_text}
 use Rattle.printout.specs.Printing.{written}
@@ -27,6 +27,14 @@ pub written_byte : (at b : ℕ) (bytes : List ℕ) → at < length bytes → set
 unfolding written
 written_byte at b bytes h =
     set_split bytes at b h ∙ ap (λ (n : ℕ). take at bytes ++ b ∷ drop n bytes) (sym (add-one at))
+
+-- a text written over a part lent
+pub written_part : (at end : ℕ) (text bytes : List ℕ) {part : List ℕ} → end ≡ at + length text → part ≡ text
+    → take at bytes ++ (part ++ drop (end - at) (drop at bytes)) ≡ written at text bytes
+unfolding written
+written_part at end text bytes p q =
+    ap₂ (λ (l m : List ℕ). take at bytes ++ (l ++ m)) q
+    (drop-drop (end - at) at bytes ∙ ap (λ (n : ℕ). drop n bytes) {x = at + (end - at)} {y = at + length text} (omega arith))
 
 written_length : (at : ℕ) (text bytes : List ℕ) → at + length text ≤ length bytes
     → length (written at text bytes) ≡ length bytes
@@ -127,22 +135,6 @@ module _ (from : ℕ) (text e : List ℕ) where
     writing_end v =
         let all = sym (append-nil v.done) ∙ v.whole in
         (v.here ∙ ap (λ (l : List ℕ). from + length l) all, v.so_far ∙ ap (λ (l : List ℕ). written from l e) all)
-
--- ---- bytes of a text
-
-module _ (from : ℕ) (text e : List ℕ) {i at : ℕ} {bytes : List ℕ} (v : Writing from text e at (drop i text) bytes) where
-  pub text_room : i < length text → at < length bytes
-  text_room h = omega (arith, writing_room from text e v, length-drop i text)
-
-  pub text_next : {to b : ℕ} {out : List ℕ} → i < length text → b ≡ get_or text i 0 → to ≡ at + 1
-      → out ≡ written at (b ∷ []) bytes → Writing from text e to (drop (i + 1) text) out
-  text_next {b = b} h s p w =
-      writing_next from text e v (b ∷ []) (drop (i + 1) text)
-      (drop-cons text i 0 h ∙ ap₂ (λ (x n : ℕ). x ∷ drop n text) (sym s) (sym (add-one i))) p w
-
-  pub text_end : length text ≤ i → (at ≡ from + length text) × (bytes ≡ written from text e)
-  text_end h =
-      writing_end from text e (subst (λ (l : List ℕ). Writing from text e at l bytes) (drop_of_length-le text h) v)
 
 -- ---- numbers written
 

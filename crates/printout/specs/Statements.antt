@@ -1,12 +1,12 @@
 -- What is proved of the printout. The proofs are in `proofs/Theorems.antt`.
 -- In order: numbers in decimal, cells, what a text says, fit to print and its bounds, what printing gives, room.
 -- Assumes nothing.
-use Rattle.std.specs.Prelude.{◌≡◌, true, ◌↔◌, List, [], ◌∷◌, ◌++◌, ℕ, ◌+◌, ◌*◌, ◌/◌, ◌%◌, ◌^◌, ◌≤◌, ◌<◌, ℤ, length, get_or, take, drop, replicate}
+use Rattle.std.specs.Prelude.{◌≡◌, true, ◌↔◌, List, [], ◌∷◌, ◌++◌, Ok, Err, ℕ, ◌+◌, ◌*◌, ◌/◌, ◌%◌, ◌^◌, ◌≤◌, ◌<◌, ℤ, length, get_or, take, drop, replicate}
 use Rattle.sorted.specs.Rows.{Row, OfKinds}
 use Rattle.printout.specs.Decimal.{decimal, Numeral, number_of, integer_text, integer_of, cell_text}
 use Rattle.printout.specs.Lines.{row_line, answer_text, book_refused, query_refused, FitToPrint, fits}
 use Rattle.printout.specs.Printing.{printed, after, answer_printed, after_answer}
-use Rattle.printout.specs.declared.Printed.TheVariants.{Bytes, NoRoom, NotFit}
+use Rattle.printout.specs.declared.Unprinted.TheVariants.{NoRoom, NotFit}
 
 -- a number has one text in decimal: digits without a leading zero, and those that stand for it
 pub record InDecimal : Type 0 where
@@ -54,8 +54,8 @@ pub record FitBounds : Type 0 where
 -- a text is printed whole, or there is no room for it and nothing changes
 pub record TextPrinted (text bytes : List ℕ) : Type 0 where
   pub whole : length text ≤ length bytes
-      → (printed text bytes ≡ Bytes (length text)) × (after text bytes ≡ text ++ drop (length text) bytes)
-  pub no_room : length bytes < length text → (printed text bytes ≡ NoRoom) × (after text bytes ≡ bytes)
+      → (printed text bytes ≡ Ok (length text)) × (after text bytes ≡ text ++ drop (length text) bytes)
+  pub no_room : length bytes < length text → (printed text bytes ≡ Err NoRoom) × (after text bytes ≡ bytes)
 
 -- an answer that is "fit to print" is printed as its text; of any other nothing is
 pub record AnswerPrinted (serial rows : ℕ) (kinds cells bytes : List ℕ) : Type 0 where
@@ -63,7 +63,7 @@ pub record AnswerPrinted (serial rows : ℕ) (kinds cells bytes : List ℕ) : Ty
       → (answer_printed serial rows kinds cells bytes ≡ printed (answer_text serial rows kinds cells) bytes)
       × (after_answer serial rows kinds cells bytes ≡ after (answer_text serial rows kinds cells) bytes)
   pub not_fit : ¬ FitToPrint rows kinds cells
-      → (answer_printed serial rows kinds cells bytes ≡ NotFit) × (after_answer serial rows kinds cells bytes ≡ bytes)
+      → (answer_printed serial rows kinds cells bytes ≡ Err NotFit) × (after_answer serial rows kinds cells bytes ≡ bytes)
 
 -- `ROOM` is enough for each answer in 8,192 cells, and 18 bytes for each refusal
 pub record RoomEnough : Type 0 where

@@ -13,14 +13,13 @@ use numbers::index;
 // Room that is always enough for an answer of 8,192 cells.
 pub const ROOM: usize = 98327;
 
-// What printing gives.
-#[derive(Clone, Copy)]
-pub enum Printed {
-    // The whole text stands in the first bytes; this many.
-    Bytes(usize),
-    // The text is longer than the bytes. They are as they were.
+// Why nothing was printed; the bytes are as they were. A text that is printed stands in the first bytes, and printing
+// gives how many they are.
+#[derive(Clone, Copy, PartialEq, Eq, Debug)]
+pub enum Unprinted {
+    // The text is longer than the bytes.
     NoRoom,
-    // The answer is not fit to print. The bytes are as they were.
+    // The answer is not fit to print.
     NotFit,
 }
 
@@ -62,12 +61,8 @@ fn put_text(out: &mut [u8], at: usize, text: &[u8]) -> usize
     ensures value { result ≡ at + length text.now }
     ensures out_after { out.new ≡ written at text.now out.old }
 {
-    let mut end = at;
-    let mut i: usize = 0;
-    while i < text.len() {
-        end = put_byte(out, end, text[i]);
-        i += 1;
-    }
+    let end = at + text.len();
+    out[at..end].copy_from_slice(text);
     end
 }
 
@@ -98,7 +93,7 @@ fn put_words(out: &mut [u8], at: usize, words: &[u8], x: usize) -> usize
 fn has_minus(kind: u8, cell: u32) -> bool
     ensures { result ≡ (eqb kind 1 && leb (2 ^ 31) cell) }
 {
-    if kind == 1 { 2147483648 <= cell } else { false }
+    kind == 1 && 2147483648 <= cell
 }
 
 // How many bytes the text of a value has.
@@ -162,11 +157,9 @@ fn row_length(kinds: &[u8], row: &[u32]) -> usize
     ensures value { result ≡ length (row_line kinds.now row.now) }
     ensures inside { result ≤ 96 }
 {
-    let mut n: usize = 0;
-    let mut i: usize = 0;
-    while i < kinds.len() {
-        n += cell_length(kinds[i], row[i]) + 1;
-        i += 1;
+    let mut n = 0;
+    for (kind, cell) in kinds.iter().zip(row) {
+        n += cell_length(*kind, *cell) + 1;
     }
     n
 }
@@ -180,11 +173,9 @@ fn put_row(out: &mut [u8], at: usize, kinds: &[u8], row: &[u32]) -> usize
         ≡ written at (row_line kinds.now row.now) out.old }
 {
     let mut end = at;
-    let mut i: usize = 0;
-    while i < kinds.len() {
-        end = put_cell(out, end, kinds[i], row[i]);
+    for (i, kind) in kinds.iter().enumerate() {
+        end = put_cell(out, end, *kind, row[i]);
         end = put_byte(out, end, mark(i, kinds.len()));
-        i += 1;
     }
     end
 }
@@ -198,13 +189,9 @@ fn rows_length(kinds: &[u8], cells: &[u32], rows: usize) -> usize
     ensures inside { result ≤ 96 * 999_999_999_999 }
 {
     let w = kinds.len();
-    let mut from: usize = 0;
-    let mut left = rows;
-    let mut n: usize = 0;
-    while 0 < left {
-        n += row_length(kinds, &cells[from..from + w]);
-        from += w;
-        left -= 1;
+    let mut n = 0;
+    for i in 0..rows {
+        n += row_length(kinds, &cells[i * w..i * w + w]);
     }
     n
 }
@@ -221,12 +208,8 @@ fn put_rows(out: &mut [u8], at: usize, kinds: &[u8], cells: &[u32], rows: usize)
 {
     let w = kinds.len();
     let mut end = at;
-    let mut from: usize = 0;
-    let mut left = rows;
-    while 0 < left {
-        end = put_row(out, end, kinds, &cells[from..from + w]);
-        from += w;
-        left -= 1;
+    for i in 0..rows {
+        end = put_row(out, end, kinds, &cells[i * w..i * w + w]);
     }
     end
 }
@@ -254,14 +237,7 @@ fn put_head(out: &mut [u8], serial: u32, rows: usize) -> usize
 fn all_known(kinds: &[u8]) -> bool
     ensures { result ≡ all_known kinds.now }
 {
-    let mut i: usize = 0;
-    while i < kinds.len() {
-        if 3 < kinds[i] {
-            return false;
-        }
-        i += 1;
-    }
-    true
+    kinds.iter().all(|kind| *kind < 4)
 }
 
 // Whether each cell of a row is in its kind's range.
@@ -269,14 +245,10 @@ fn row_fits(kinds: &[u8], row: &[u32]) -> bool
     requires { length kinds.now ≤ length row.now }
     ensures { result ≡ row_fits kinds.now row.now }
 {
-    let mut i: usize = 0;
-    while i < kinds.len() {
-        if !values::in_range(kinds[i], row[i]) {
-            return false;
-        }
-        i += 1;
-    }
-    true
+    kinds
+        .iter()
+        .zip(row)
+        .all(|(kind, cell)| values::in_range(*kind, *cell))
 }
 
 // Whether each cell of the first rows is in its kind's range.
@@ -286,14 +258,10 @@ fn rows_fit(kinds: &[u8], cells: &[u32], rows: usize) -> bool
         (rows_in (length kinds.now) rows cells.now) }
 {
     let w = kinds.len();
-    let mut from: usize = 0;
-    let mut left = rows;
-    while 0 < left {
-        if !row_fits(kinds, &cells[from..from + w]) {
+    for i in 0..rows {
+        if !row_fits(kinds, &cells[i * w..i * w + w]) {
             return false;
         }
-        from += w;
-        left -= 1;
     }
     true
 }
@@ -329,50 +297,50 @@ pub fn print_answer(
     kinds: &[u8],
     cells: &[u32],
     out: &mut [u8],
-) -> Printed
+) -> Result<usize, Unprinted>
     ensures value { result ≡ answer_printed serial rows kinds.now cells.now out.old }
     ensures out_after { out.new
         ≡ after_answer serial rows kinds.now cells.now out.old }
 {
     if !is_fit(rows, kinds, cells) {
-        return Printed::NotFit;
+        return Err(Unprinted::NotFit);
     }
     let size = head_length(serial, rows) + rows_length(kinds, cells, rows);
     if out.len() < size {
-        return Printed::NoRoom;
+        return Err(Unprinted::NoRoom);
     }
     let at = put_head(out, serial, rows);
-    Printed::Bytes(put_rows(out, at, kinds, cells, rows))
+    Ok(put_rows(out, at, kinds, cells, rows))
 }
 
 // Prints a text as it is.
-pub fn print_text(text: &[u8], out: &mut [u8]) -> Printed
+pub fn print_text(text: &[u8], out: &mut [u8]) -> Result<usize, Unprinted>
     ensures value { result ≡ printed text.now out.old }
     ensures out_after { out.new ≡ after text.now out.old }
 {
     if out.len() < text.len() {
-        return Printed::NoRoom;
+        return Err(Unprinted::NoRoom);
     }
-    Printed::Bytes(put_text(out, 0, text))
+    Ok(put_text(out, 0, text))
 }
 
 // Prints a line of some words, a space behind each, and a number.
-fn print_refusal(words: &[u8], number: u8, out: &mut [u8]) -> Printed
+fn print_refusal(words: &[u8], number: u8, out: &mut [u8]) -> Result<usize, Unprinted>
     requires { length words.now ≤ 14 }
     ensures value { result ≡ printed (words.now ++ decimal number ++ 10 ∷ []) out.old }
     ensures out_after { out.new ≡ after (words.now ++ decimal number ++ 10 ∷ []) out.old }
 {
-    let x = number as usize;
+    let x = usize::from(number);
     let n = words.len() + decimal_length(x) + 1;
     if out.len() < n {
-        return Printed::NoRoom;
+        return Err(Unprinted::NoRoom);
     }
     let at = put_words(out, 0, words, x);
-    Printed::Bytes(put_byte(out, at, b'\n'))
+    Ok(put_byte(out, at, b'\n'))
 }
 
 // Prints that a book is refused, by its number.
-pub fn print_book_refusal(number: u8, out: &mut [u8]) -> Printed
+pub fn print_book_refusal(number: u8, out: &mut [u8]) -> Result<usize, Unprinted>
     ensures value { result ≡ printed (book_refused number) out.old }
     ensures out_after { out.new ≡ after (book_refused number) out.old }
 {
@@ -380,7 +348,7 @@ pub fn print_book_refusal(number: u8, out: &mut [u8]) -> Printed
 }
 
 // Prints that a query is refused, by its number.
-pub fn print_query_refusal(number: u8, out: &mut [u8]) -> Printed
+pub fn print_query_refusal(number: u8, out: &mut [u8]) -> Result<usize, Unprinted>
     ensures value { result ≡ printed (query_refused number) out.old }
     ensures out_after { out.new ≡ after (query_refused number) out.old }
 {

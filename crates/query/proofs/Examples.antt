@@ -7,6 +7,7 @@ use mathlib.Core.List.{List, [], ◌∷◌, ◌++◌, map, flat_map}
 use Prim.Native.Nat.{ℕ, ◌+◌}
 use lib.ListN.{take, replicate}
 use Rattle.numbers.specs.Numbers.{is_nil}
+use Rattle.refusals.specs.Refusals.{number_of_any, refusals, refusal_of_number}
 use Rattle.sets.specs.Sets.{bit, has, within, ◌∪◌, single, is_empty, members}
 use Rattle.values.specs.Values.{missing, in_range}
 use Rattle.values.specs.Table.{built_in, allows}
@@ -102,7 +103,7 @@ eight_items = Item 0 0 ∷ Item 0 1 ∷ Item 0 2 ∷ Item 1 3 ∷ Item 1 4 ∷ I
 -- ---- results
 
 unfoldable pub result_of : Query → List ℕ
-result_of q = q.refusal ∷ q.read ∷ []
+result_of q = number_of_any q.refusal ∷ q.read ∷ []
 
 -- the number and the bytes read
 unfoldable pub result : List ℕ → List ℕ
@@ -257,7 +258,7 @@ trials =
 
 pub trials_hold : map (λ t. t.gives) trials ≡ map (λ t. t.says) trials
 unfolding trials book comparing of_club one_way maximals good eight_of_two eight_with_constant eight_items result_of result
-    fields_of
+    refusals refusal_of_number fields_of
     asked_by asks flat_map query_of read at_end whole_number some_unconnected unconnected is_nil containing walk_query is_end
     kind_of
     fault_of checks of_query asked_of comparisons_in conjunction filled attributes_named naming names_of name_of comparisons_of comparison_of items_of

@@ -1,5 +1,5 @@
 -- What the loops of `query` keep, and how a turn carries it on.
--- In order: numbers where no whole record stands, the walk over the records, the search for a maximal object, the
+-- In order: the fault where no whole record stands, the walk over the records, the search for a maximal object, the
 -- search for a variable, the ways out of reading.
 -- Assumes nothing.
 use mathlib.Core.Path.{◌≡◌, refl, sym, ap, ap₂, ◌∙◌}
@@ -9,16 +9,18 @@ use Prim.Native.Nat.{ℕ, ◌+◌, ◌≤◌, ◌<◌}
 use native.Mathlib.Omega.{arith}
 use borrow.Author.Tests.{eq-eqb, ne_eqb, not-true, not-false}
 use lib.ListN.{length, get_or}
-use types.Run.{OneOf, miss}
-use denote.Enum.Declared.{tag_of}
+use Rattle.std.specs.Prelude.{Option, None, Some}
 use Rattle.numbers.specs.Numbers.{is_nil}
+use Rattle.refusals.specs.declared.Refusal.{Refusal}
+use Rattle.refusals.specs.declared.Refusal.TheVariants.{TooManyBytes}
+use Rattle.refusals.specs.Refusals.{number_of, number_of_any, refusals, refusal_of_number}
 use Rattle.sets.specs.Sets.{within, is_empty}
 use Rattle.sets.proofs.Tests.{and_yes}
-use Rattle.records.specs.contracts.Reading.{the_type}
 use Rattle.records.specs.Reader.{read_at}
-use Rattle.records.specs.Records.{of_query}
 use Rattle.records.specs.Walking as Walks
-use Rattle.records.specs.Walking.{Stop, short_number}
+use Rattle.records.specs.Walking.{Stop, unread_number}
+use Rattle.records.specs.declared.Owner.TheVariants as Owners
+use Rattle.records.proofs.Refused.{refused_by, its_refusal, number_not_zero}
 use Rattle.records.proofs.Walking.{accepted_inside, stops_nothing, stops_unknown, stops_short, stops_last, stops_faulty}
 use Rattle.records.specs.declared.Record.{Record}
 use Rattle.records.specs.declared.Reading.{Reading}
@@ -37,15 +39,14 @@ use Rattle.query.specs.Reading.{some_unconnected, whole_number, read, query_of}
 use Rattle.query.proofs.Asking.{asked_nothing, asked_record, asks_end, last_is_end}
 use Rattle.query.proofs.Outcomes.{after_fault, after_end, end_fault, end_good, read_over, read_within}
 
--- ---- numbers where no whole record stands
+-- ---- the fault where no whole record stands
 
-pub short_yes : (k : ℕ) → of_query k ≡ true → 3 ≡ short_number of_query k
-unfolding short_number
-short_yes k y = ap (λ (b : Bool). elim b [ true ↦ 3 | false ↦ 2 ]) (sym y)
-
-pub short_no : (k : ℕ) → of_query k ≡ false → 2 ≡ short_number of_query k
-unfolding short_number
-short_no k n = ap (λ (b : Bool). elim b [ true ↦ 3 | false ↦ 2 ]) (sym n)
+pub unread_elsewhere : (x : Reading) → (x ≡ Nothing → ⊥) → unread_number Owners.Query x ≡ stop_number x
+unfolding unread_number stop_number
+unread_elsewhere Nothing d = absurd (d refl)
+unread_elsewhere Unknown d = refl
+unread_elsewhere (Short k) d = refl
+unread_elsewhere (Found r next) d = refl
 
 -- ---- the walk over the records
 
@@ -61,6 +62,11 @@ pub record Walking (s : Scheme) (b : List ℕ) (q : Asked) (at : ℕ) : Type 0 w
 
 pub walking_start : (s : Scheme) (b : List ℕ) {q : Asked} → q ≡ nothing_asked → Walking s b q 0
 walking_start s b e = record { passed = []; accepted = Walks.none; same = e ∙ asked_nothing }
+
+-- what the code has at a way out, with a refusal or none
+pub record WalkedOut (s : Scheme) (b : List ℕ) (q : Asked) (n : Option Refusal) (at : ℕ) : Type 0 where
+  pub value : ◌≡◌ {A = Walked} (record { refusal = n; asked = q; at = at }) (walked_of (walk_query s b))
+  pub numbered : number_of_any n ≡ (walk_query s b).number
 
 module _ {s : Scheme} {b : List ℕ} {q : Asked} {at : ℕ} (v : Walking s b q at) where
   pub walking_inside : at ≤ length b
@@ -80,44 +86,39 @@ module _ {s : Scheme} {b : List ℕ} {q : Asked} {at : ℕ} (v : Walking s b q a
         same = w ∙ ap (λ (x : Asked). with_record x r) v.same ∙ asked_record s v.passed r f';
       }
 
-  walking_out : (n p : ℕ) (rs : List Record) → asked_of (asks v.passed) ≡ asked_of (asks rs)
-      → walk_query s b ≡ record { number = n; state = rs; at = p }
-      → ◌≡◌ {A = Walked} (record { refusal = n; asked = q; at = p }) (walked_of (walk_query s b))
+  walking_out : (n : Option Refusal) {m : ℕ} (p : ℕ) (rs : List Record) → asked_of (asks v.passed) ≡ asked_of (asks rs)
+      → number_of_any n ≡ m → walk_query s b ≡ record { number = m; state = rs; at = p } → WalkedOut s b q n p
   unfolding walked_of
-  walking_out n p rs same e =
-      ap {B = Walked} (λ (x : Asked). record { refusal = n; asked = x; at = p }) (v.same ∙ same)
-      ∙ ap walked_of (sym e)
-
-  renumbered : {n m : ℕ} → walk_query s b ≡ record { number = m; state = v.passed; at = at } → n ≡ m
-      → walk_query s b ≡ record { number = n; state = v.passed; at = at }
-  renumbered e p =
-      e ∙ ap {B = Stop (List Record)} (λ (k : ℕ). record { number = k; state = v.passed; at = at }) (sym p)
+  walking_out n p rs same k e = record {
+    value =
+        ap₂ {C = Walked} (λ (i : Option Refusal) (x : Asked). record { refusal = i; asked = x; at = p }) (refused_by n k)
+        (v.same ∙ same)
+        ∙ ap walked_of (sym e);
+    numbered = k ∙ ap (λ (w : Stop (List Record)). w.number) (sym e);
+  }
 
   -- no whole record stands there
-  pub walking_unread : {n : ℕ} (x : Reading) → read_at b at ≡ x → ((r : Record) (next : ℕ) → x ≡ Found r next → ⊥)
-      → n ≡ stop_number x → ◌≡◌ {A = Walked} (record { refusal = n; asked = q; at = at }) (walked_of (walk_query s b))
+  pub walking_unread : (n : Option Refusal) (x : Reading) → read_at b at ≡ x
+      → ((r : Record) (next : ℕ) → x ≡ Found r next → ⊥) → number_of_any n ≡ stop_number x → WalkedOut s b q n at
   unfolding stop_number walk_query
-  walking_unread {n} Nothing e k p = walking_out n at v.passed refl (renumbered (stops_nothing v.accepted e) p)
-  walking_unread {n} Unknown e k p = walking_out n at v.passed refl (renumbered (stops_unknown v.accepted e) p)
-  walking_unread {n} (Short kind) e k p =
-      walking_out n at v.passed refl (renumbered (stops_short v.accepted e) p)
-  walking_unread (Found r next) e k p = absurd (k r next refl)
+  walking_unread n Nothing e k p = walking_out n at v.passed refl p (stops_nothing v.accepted e)
+  walking_unread n Unknown e k p = walking_out n at v.passed refl p (stops_unknown v.accepted e)
+  walking_unread n (Short kind) e k p = walking_out n at v.passed refl p (stops_short v.accepted e)
+  walking_unread n (Found r next) e k p = absurd (k r next refl)
 
-  pub walking_faulty : {r : Record} {next n : ℕ} → read_at b at ≡ Found r next
-      → n ≡ fault_of s q r → (n ≡ 0 → ⊥)
-      → ◌≡◌ {A = Walked} (record { refusal = n; asked = q; at = at }) (walked_of (walk_query s b))
+  pub walking_faulty : {r : Record} {next : ℕ} (n : Refusal) → read_at b at ≡ Found r next
+      → number_of n ≡ fault_of s q r → WalkedOut s b q (Some n) at
   unfolding walk_query
-  walking_faulty {r} {n = n} e p d =
+  walking_faulty {r} n e p =
       let p' = p ∙ fault_here r in
-      walking_out n at v.passed refl (renumbered (stops_faulty v.accepted e (λ z. d (p' ∙ z))) p')
+      walking_out (Some n) at v.passed refl p' (stops_faulty v.accepted e (λ z. number_not_zero n (p' ∙ z)))
 
   pub walking_last : {r : Record} {next : ℕ} → read_at b at ≡ Found r next
-      → fault_of s q r ≡ 0 → is_end r ≡ true
-      → ◌≡◌ {A = Walked} (record { refusal = 0; asked = q; at = next }) (walked_of (walk_query s b))
+      → fault_of s q r ≡ 0 → is_end r ≡ true → WalkedOut s b q None next
   unfolding walk_query
   walking_last {r} {next} e f l =
       let f' = sym (fault_here r) ∙ f in
-      walking_out 0 next (v.passed ++ r ∷ []) (asked_last v.passed r l) (stops_last v.accepted e f' l)
+      walking_out None next (v.passed ++ r ∷ []) (asked_last v.passed r l) refl (stops_last v.accepted e f' l)
 
 -- ---- the search for a maximal object: some one of the list contains X
 
@@ -228,18 +229,15 @@ module _ (s : Scheme) (Ms : List ℕ) (q : Asked) where
 
 module _ (s : Scheme) (Ms b : List ℕ) where
   pub query_over : {q : Asked} → 65536 < length b → q ≡ nothing_asked
-      → ◌≡◌ {A = Query} (record { refusal = 1; asked = q; read = 0 }) (query_of (read s Ms b))
-  unfolding query_of
+      → ◌≡◌ {A = Query} (record { refusal = Some TooManyBytes; asked = q; read = 0 }) (query_of (read s Ms b))
+  unfolding query_of refusals refusal_of_number
   query_over h e =
-      ap {B = Query} (λ (x : Asked). record { refusal = 1; asked = x; read = 0 }) (e ∙ asked_nothing)
+      ap {B = Query} (λ (x : Asked). record { refusal = Some TooManyBytes; asked = x; read = 0 }) (e ∙ asked_nothing)
       ∙ ap query_of (sym (read_over s Ms b h))
 
-  module _ {w : Walked} (h : length b ≤ 65536) (e : w ≡ walked_of (walk_query s b)) where
+  module _ {w : Walked} (h : length b ≤ 65536) (e : w ≡ walked_of (walk_query s b))
+      (known : number_of_any w.refusal ≡ (walk_query s b).number) where
     -- the fields of what the code walked
-    number_is : w.refusal ≡ (walk_query s b).number
-    unfolding walked_of
-    number_is = ap (λ (x : Walked). x.refusal) e
-
     asked_is : w.asked ≡ asked_of (asks (walk_query s b).state)
     unfolding walked_of
     asked_is = ap (λ (x : Walked). x.asked) e
@@ -248,34 +246,45 @@ module _ (s : Scheme) (Ms b : List ℕ) where
     unfolding walked_of
     at_is = ap (λ (x : Walked). x.at) e
 
-    pub query_faulty : (w.refusal ≡ 0 → ⊥)
-        → ◌≡◌ {A = Query} (record { refusal = w.refusal; asked = w.asked; read = 0 }) (query_of (read s Ms b))
+    pub query_faulty : (n : Refusal) → w.refusal ≡ Some n
+        → ◌≡◌ {A = Query} (record { refusal = Some n; asked = w.asked; read = 0 }) (query_of (read s Ms b))
     unfolding query_of
-    query_faulty d =
-        ap₂ {C = Query} (λ (n : ℕ) (x : Asked). record { refusal = n; asked = x; read = 0 }) number_is asked_is
-        ∙ ap query_of (sym (read_within s Ms b h ∙ after_fault s Ms (walk_query s b) (λ z. d (number_is ∙ z))))
+    query_faulty n is =
+        let p : number_of n ≡ (walk_query s b).number = ap number_of_any (sym is) ∙ known in
+        ap₂ {C = Query} (λ (i : Option Refusal) (x : Asked). record { refusal = i; asked = x; read = 0 }) (its_refusal n p)
+        asked_is
+        ∙ ap query_of (sym (read_within s Ms b h ∙ after_fault s Ms (walk_query s b) (λ z. number_not_zero n (p ∙ z))))
 
-    module _ (z : w.refusal ≡ 0) {n : ℕ} (p : n ≡ whole_number s Ms w.asked) where
-      whole_is : n ≡ whole_number s Ms (asked_of (asks (walk_query s b).state))
-      whole_is = p ∙ ap (whole_number s Ms) asked_is
+    module _ (none : w.refusal ≡ None) where
+      zero_is : (walk_query s b).number ≡ 0
+      zero_is = sym known ∙ ap number_of_any none
 
-      pub query_refused_law : (n ≡ 0 → ⊥)
-          → ◌≡◌ {A = Query} (record { refusal = n; asked = w.asked; read = 0 }) (query_of (read s Ms b))
+      whole_is : {n : ℕ} → n ≡ whole_number s Ms w.asked → n ≡ whole_number s Ms (asked_of (asks (walk_query s b).state))
+      whole_is p = p ∙ ap (whole_number s Ms) asked_is
+
+      pub query_refused_law : (n : Refusal) → number_of n ≡ whole_number s Ms w.asked
+          → ◌≡◌ {A = Query} (record { refusal = Some n; asked = w.asked; read = 0 }) (query_of (read s Ms b))
       unfolding query_of
-      query_refused_law d =
-          let ended = read_within s Ms b h ∙ after_end s Ms (walk_query s b) (sym number_is ∙ z) in
+      query_refused_law n p =
+          let ended = read_within s Ms b h ∙ after_end s Ms (walk_query s b) zero_is in
           let out = end_fault (whole_number s Ms (asked_of (asks (walk_query s b).state))) (asks (walk_query s b).state)
-          (walk_query s b).at (λ y. d (whole_is ∙ y)) in
-          ap₂ {C = Query} (λ (k : ℕ) (x : Asked). record { refusal = k; asked = x; read = 0 }) whole_is asked_is
+          (walk_query s b).at (λ y. number_not_zero n (whole_is p ∙ y)) in
+          ap₂ {C = Query} (λ (i : Option Refusal) (x : Asked). record { refusal = i; asked = x; read = 0 })
+          (its_refusal n (whole_is p)) asked_is
           ∙ ap query_of (sym (ended ∙ out))
 
-      pub query_answered : n ≡ 0
-          → ◌≡◌ {A = Query} (record { refusal = n; asked = w.asked; read = w.at }) (query_of (read s Ms b))
+      pub query_answered : 0 ≡ whole_number s Ms w.asked
+          → ◌≡◌ {A = Query} (record { refusal = None; asked = w.asked; read = w.at }) (query_of (read s Ms b))
       unfolding query_of
-      query_answered y =
-          let ended = read_within s Ms b h ∙ after_end s Ms (walk_query s b) (sym number_is ∙ z) in
+      query_answered p =
+          let ended = read_within s Ms b h ∙ after_end s Ms (walk_query s b) zero_is in
           let out = end_good (whole_number s Ms (asked_of (asks (walk_query s b).state))) (asks (walk_query s b).state)
-          (walk_query s b).at (sym whole_is ∙ y) in
-          ap {B = Query} (λ (k : ℕ). record { refusal = k; asked = w.asked; read = w.at }) y
-          ∙ ap₂ {C = Query} (λ (x : Asked) (k : ℕ). record { refusal = 0; asked = x; read = k }) asked_is at_is
+          (walk_query s b).at (sym (whole_is p)) in
+          ap₂ {C = Query} (λ (x : Asked) (k : ℕ). record { refusal = None; asked = x; read = k }) asked_is at_is
+          ∙ ap {B = Query} (λ (i : Option Refusal). record {
+            refusal = i;
+            asked = asked_of (asks (walk_query s b).state);
+            read = (walk_query s b).at;
+          })
+          (refused_by None refl)
           ∙ ap query_of (sym (ended ∙ out))

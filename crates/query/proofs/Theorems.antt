@@ -1,9 +1,9 @@
 -- The theorems of `Statements`, in its order.
 -- Assumes nothing.
-use mathlib.Core.Path.{sym, ap, ◌∙◌, subst}
-use mathlib.Core.Logic.{⊎_elim}
+use mathlib.Core.Path.{◌≡◌, refl, sym, ap, ◌∙◌, subst}
+use mathlib.Core.Logic.{◌⊎◌, inl, inr, ⊎_elim}
 use mathlib.Core.List.{List}
-use Prim.Native.Nat.{ℕ}
+use Prim.Native.Nat.{ℕ, ◌≤◌}
 use native.Mathlib.Omega.{arith}
 use lib.ListN.{length}
 use Rattle.sets.proofs.Numbers.{lt_or_le}
@@ -14,10 +14,12 @@ use Rattle.records.specs.Gathered.{Gathered}
 use Rattle.query.specs.declared.Asked.{Asked}
 use Rattle.query.specs.Asking.{Asking, comparisons_of, asks}
 use Rattle.query.specs.Conditions.{conditions}
+use Rattle.records.proofs.Refused.{HasRefusal, small_has, other_has}
+use Rattle.query.specs.Reading.{query_of}
 use Rattle.query.specs.Accepting.{StopsWith}
 use Rattle.query.specs.Statements.{FaultMeans, SaysComparison, RecordsAsk, AttributesAre, ContainingList}
-use Rattle.query.specs.Statements.{ReadExactly, AcceptedFits, NumberMeans}
-use Rattle.query.proofs.Conditions.{three, fault_first, first_fault}
+use Rattle.query.specs.Statements.{ReadExactly, AcceptedFits, NumberMeans, RefusalNumbered}
+use Rattle.query.proofs.Conditions.{fault_first, first_fault}
 use Rattle.query.proofs.Names.{items_gathered, comparisons_gathered, names_in, in_names, names_whole, named_in}
 use Rattle.query.proofs.Names.{in_named, asked_whole}
 use Rattle.query.proofs.Asking.{conjunction_of}
@@ -97,3 +99,14 @@ number_means s Ms b = record {
     λ p. ended_number s Ms b p.0 p.1,
   );
 }
+
+pub refusal_numbered : (s : Scheme) (Ms b : List ℕ) → RefusalNumbered s Ms b
+unfolding query_of
+refusal_numbered s Ms b = record { numbered = has (number_one_of s Ms b refl) }
+  where
+    has : {n : ℕ} → (n ≤ 5) ⊎ ((n ≡ 7) ⊎ ((n ≡ 10) ⊎ ((n ≡ 11) ⊎ (n ≡ 12)))) → HasRefusal n
+    has {n} (inl h) = small_has n (omega arith)
+    has {n} (inr (inl e)) = small_has n (omega arith)
+    has (inr (inr (inl e))) = subst HasRefusal (sym e) other_has.1
+    has (inr (inr (inr (inl e)))) = subst HasRefusal (sym e) other_has.2
+    has (inr (inr (inr (inr e)))) = subst HasRefusal (sym e) other_has.3

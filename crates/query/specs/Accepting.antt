@@ -3,7 +3,7 @@
 -- In order: names, maximal objects that contain a set, the whole query, where reading stops.
 -- Assumes nothing.
 use Rattle.std.specs.Prelude.{◌≡◌, ℕ, ◌≤◌, length}
-use mathlib.Core.List.{List, [], ◌∷◌, ◌++◌, Memᴰ}
+use mathlib.Core.List.{List, [], Memᴰ}
 use Rattle.sets.specs.Sets.{◌∈◌, ◌⊆◌}
 use Rattle.records.specs.Reader.{read_at}
 use Rattle.records.specs.Records.{of_query}

@@ -1,7 +1,7 @@
 -- The checks of a query's record in the paper's words, as conditions and not as tests. That `fault_of` is the number of
 -- the first that holds is a theorem (`Statements`).
 -- Assumes nothing.
-use Rattle.std.specs.Prelude.{◌≡◌, true, false, ◌⊎◌, List, [], ◌∷◌, ℕ, ◌≤◌, ◌<◌}
+use Rattle.std.specs.Prelude.{◌≡◌, true, false, ◌⊎◌, List, [], ◌∷◌, ◌≤◌, ◌<◌}
 use Rattle.sets.specs.Sets.{◌∉◌, ATTRIBUTES}
 use Rattle.values.specs.Values.{missing, in_range}
 use Rattle.values.specs.Table.{allows}

@@ -5,6 +5,7 @@
 -- Assumes nothing.
 use Rattle.std.specs.Prelude.{Bool, true, false, not, ◌&&◌, ◌||◌, List, [], ◌∷◌, ◌++◌, ℕ, eqb, ltb, length}
 use Rattle.numbers.specs.Numbers.{is_nil}
+use Rattle.refusals.specs.Refusals.{refusal_of_number}
 use Rattle.sets.specs.Sets.{within, is_empty}
 use Rattle.records.specs.Records.{of_query, kind_of}
 use Rattle.records.specs.Walking.{Rules, Stop, short_number, walk}
@@ -47,7 +48,7 @@ stop_number (Found r next) = 0
 
 -- what the code has of a walk
 unfoldable pub walked_of : Stop (List Record) → Walked
-walked_of w = record { refusal = w.number; asked = asked_of (asks w.state); at = w.at }
+walked_of w = record { refusal = refusal_of_number w.number; asked = asked_of (asks w.state); at = w.at }
 
 -- ---- maximal objects that contain a set: "In each M that contains X"
 
@@ -105,4 +106,4 @@ read s Ms b =
 -- ---- what the code gives
 
 unfoldable pub query_of : QueryOutcome → Query
-query_of o = record { refusal = o.number; asked = asked_of o.asking; read = o.read }
+query_of o = record { refusal = refusal_of_number o.number; asked = asked_of o.asking; read = o.read }

@@ -4,7 +4,8 @@
 -- number.
 -- Assumes nothing.
 use Rattle.std.specs.Prelude.{◌≡◌, ◌⊎◌, ◌↔◌, ℕ, ◌≤◌, ◌<◌, length, get_or, take}
-use mathlib.Core.List.{List, [], ◌∷◌, ◌++◌, Memᴰ}
+use mathlib.Core.List.{List, [], Memᴰ}
+use Rattle.refusals.specs.Refusals.{number_of_any}
 use Rattle.sets.specs.Sets.{◌∈◌, ATTRIBUTES}
 use Rattle.records.specs.Checks.{First}
 use Rattle.records.specs.Gathered.{Gathered}
@@ -22,7 +23,7 @@ use Rattle.query.specs.Asking.{of_two, with_cell, comparisons_in, Asking, Named,
 use Rattle.query.specs.Asking.{asked_of}
 use Rattle.query.specs.Faults.{fault_of}
 use Rattle.query.specs.Conditions.{conditions}
-use Rattle.query.specs.Reading.{containing, QueryOutcome, refused_with, read}
+use Rattle.query.specs.Reading.{containing, QueryOutcome, refused_with, read, query_of}
 use Rattle.query.specs.Accepting.{NamedIn, Contains, OfWhole, Accepted, Faulty, StopsWith}
 
 -- ---- the fault of a record
@@ -115,3 +116,7 @@ pub record NumberMeans (s : Scheme) (Ms b : List ℕ) : Type 0 where
       → ((read s Ms b).number ≡ n) ↔ ((length b ≤ 65536) × FaultyRecord s b n)
   pub of_whole : (n : ℕ) → (n ≡ 0) ⊎ ((n ≡ 10) ⊎ (n ≡ 12))
       → ((read s Ms b).number ≡ n) ↔ ((length b ≤ 65536) × Ended s Ms b n)
+
+-- the refusal in the query has the number of the outcome, and none is in it where that is 0
+pub record RefusalNumbered (s : Scheme) (Ms b : List ℕ) : Type 0 where
+  pub numbered : number_of_any (query_of (read s Ms b)).refusal ≡ (read s Ms b).number

@@ -1,19 +1,19 @@
-// Reading the bytes of a query over a book that was read: what it asks, and the number that it is refused with.
+// Reading the bytes of a query over a book that was read: what it asks, and why it is refused.
 #![tactic(auto)]
 
 ghost use Rattle.std.specs.Prelude.{◌≡◌, ◌<◌, ◌≤◌, length, not};
 ghost use Rattle.numbers.specs.Numbers.{is_nil};
+ghost use Rattle.refusals.specs.Refusals.{number_of_any, number_of_check};
 ghost use Rattle.sets.specs.Sets.{ATTRIBUTES, OBJECTS};
-ghost use Rattle.records.specs.Records.{of_query};
-ghost use Rattle.records.specs.Walking.{short_number};
 ghost use Rattle.query.specs.Asking.{nothing_asked, with_name, with_item, with_comparison, with_record};
 ghost use Rattle.query.specs.Faults.{fault_of};
 ghost use Rattle.query.specs.Reading.{is_end, stop_number, walk_query, walked_of, containing, some_unconnected};
 ghost use Rattle.query.specs.Reading.{whole_number, read, query_of};
 
-use records::{QueryRecord, Reading, Record};
+use records::{Owner, QueryRecord, Reading, Record};
+use refusals::Refusal;
 use scheme::Scheme;
-use sets::{ATTRIBUTES, AttributeSet, ObjectSet};
+use sets::{ATTRIBUTES, AttributeSet, Mask, ObjectSet};
 
 // An item to retrieve: a variable and an attribute.
 #[derive(Clone, Copy)]
@@ -45,32 +45,32 @@ pub struct Asked {
     pub attributes: [AttributeSet; 4],
 }
 
-// A query that was read: the number that it is refused with, or 0; what the records before the fault ask; the bytes
-// read, the end of the query included, 0 where it is refused.
+// A query that was read: why it is refused, if it is; what the records before the fault ask; the bytes read, the end of
+// the query included, 0 where it is refused.
 #[derive(Clone, Copy)]
 pub struct Query {
-    pub refusal: u8,
+    pub refusal: Option<Refusal>,
     pub asked: Asked,
     pub read: usize,
 }
 
 // The faults of kinds 7 to 9, each by the paper's order, behind what the records before ask.
-fn item_fault(s: Scheme, q: Asked, variable: u8, attribute: u8) -> u8
-    ensures { result ≡ fault_of s q (Record.OfQuery (QueryRecord.Item variable attribute)) }
+fn item_fault(s: Scheme, q: Asked, variable: u8, attribute: u8) -> Result<(), Refusal>
+    ensures { number_of_check result ≡ fault_of s q (Record.OfQuery (QueryRecord.Item variable attribute)) }
 {
     if q.retrieved >= 8 {
-        return 4;
+        return Err(Refusal::TooManyOfItsKind);
     }
     if variable > 3 {
-        return 5;
+        return Err(Refusal::OutOfRange);
     }
     if attribute as u32 >= ATTRIBUTES {
-        return 5;
+        return Err(Refusal::OutOfRange);
     }
-    if !sets::has(s.attributes, numbers::wide(attribute)) {
-        return 7;
+    if !s.attributes.has(u32::from(attribute)) {
+        return Err(Refusal::NotDeclared);
     }
-    0
+    Ok(())
 }
 
 fn two_fault(
@@ -81,78 +81,85 @@ fn two_fault(
     operator: u8,
     variable2: u8,
     attribute2: u8,
-) -> u8
-    ensures { result ≡ fault_of s q (Record.OfQuery (QueryRecord.CompareTwo variable attribute operator variable2 attribute2)) }
+) -> Result<(), Refusal>
+    ensures { number_of_check result ≡ fault_of s q (Record.OfQuery (QueryRecord.CompareTwo variable attribute operator variable2 attribute2)) }
 {
     if q.compared >= 16 {
-        return 4;
+        return Err(Refusal::TooManyOfItsKind);
     }
     if variable > 3 {
-        return 5;
+        return Err(Refusal::OutOfRange);
     }
     if attribute as u32 >= ATTRIBUTES {
-        return 5;
+        return Err(Refusal::OutOfRange);
     }
     if operator > 5 {
-        return 5;
+        return Err(Refusal::OutOfRange);
     }
     if variable2 > 3 {
-        return 5;
+        return Err(Refusal::OutOfRange);
     }
     if attribute2 as u32 >= ATTRIBUTES {
-        return 5;
+        return Err(Refusal::OutOfRange);
     }
-    if !sets::has(s.attributes, numbers::wide(attribute)) {
-        return 7;
+    if !s.attributes.has(u32::from(attribute)) {
+        return Err(Refusal::NotDeclared);
     }
-    if !sets::has(s.attributes, numbers::wide(attribute2)) {
-        return 7;
+    if !s.attributes.has(u32::from(attribute2)) {
+        return Err(Refusal::NotDeclared);
     }
     let a = attribute as usize;
     let a2 = attribute2 as usize;
     let table = s.table.masks;
     if !values::allowed(table, operator, s.kinds[a], s.kinds[a2]) {
-        return 11;
+        return Err(Refusal::OperatorNotAllowed);
     }
-    0
+    Ok(())
 }
 
-fn constant_fault(s: Scheme, q: Asked, variable: u8, attribute: u8, operator: u8, cell: u32) -> u8
-    ensures { result ≡ fault_of s q (Record.OfQuery (QueryRecord.CompareConstant variable attribute operator cell)) }
+fn constant_fault(
+    s: Scheme,
+    q: Asked,
+    variable: u8,
+    attribute: u8,
+    operator: u8,
+    cell: u32,
+) -> Result<(), Refusal>
+    ensures { number_of_check result ≡ fault_of s q (Record.OfQuery (QueryRecord.CompareConstant variable attribute operator cell)) }
 {
     if q.compared >= 16 {
-        return 4;
+        return Err(Refusal::TooManyOfItsKind);
     }
     if variable > 3 {
-        return 5;
+        return Err(Refusal::OutOfRange);
     }
     if attribute as u32 >= ATTRIBUTES {
-        return 5;
+        return Err(Refusal::OutOfRange);
     }
     if operator > 5 {
-        return 5;
+        return Err(Refusal::OutOfRange);
     }
-    if !sets::has(s.attributes, numbers::wide(attribute)) {
-        return 7;
+    if !s.attributes.has(u32::from(attribute)) {
+        return Err(Refusal::NotDeclared);
     }
     let a = attribute as usize;
     let kind = s.kinds[a];
     let table = s.table.masks;
     if !values::allowed(table, operator, kind, kind) {
-        return 11;
+        return Err(Refusal::OperatorNotAllowed);
     }
     if !values::in_range(kind, cell) {
-        return 5;
+        return Err(Refusal::OutOfRange);
     }
     if values::missing(kind, cell) {
-        return 5;
+        return Err(Refusal::OutOfRange);
     }
-    0
+    Ok(())
 }
 
-// The fault of a whole record of a query, 0 where it has none.
-fn query_fault(s: Scheme, q: Asked, r: QueryRecord) -> u8
-    ensures { result ≡ fault_of s q (Record.OfQuery r) }
+// The fault of a whole record of a query.
+fn query_fault(s: Scheme, q: Asked, r: QueryRecord) -> Result<(), Refusal>
+    ensures { number_of_check result ≡ fault_of s q (Record.OfQuery r) }
 {
     match r {
         QueryRecord::Item {
@@ -172,16 +179,16 @@ fn query_fault(s: Scheme, q: Asked, r: QueryRecord) -> u8
             operator,
             cell,
         } => { constant_fault(s, q, variable, attribute, operator, cell) }
-        QueryRecord::End => 0,
+        QueryRecord::End => Ok(()),
     }
 }
 
 // The fault of a whole record: a book's may not stand in a query.
-fn fault(s: Scheme, q: Asked, r: Record) -> u8
-    ensures { result ≡ fault_of s q r }
+fn fault(s: Scheme, q: Asked, r: Record) -> Result<(), Refusal>
+    ensures { number_of_check result ≡ fault_of s q r }
 {
     match r {
-        Record::OfBook(_) => 2,
+        Record::OfBook(_) => Err(Refusal::KindNotAllowed),
         Record::OfQuery(record) => query_fault(s, q, record),
     }
 }
@@ -217,7 +224,7 @@ fn with_name(mut q: Asked, variable: u8, attribute: u8) -> Asked
     ensures { result ≡ with_name q variable attribute }
 {
     let v = variable as usize;
-    q.attributes[v] = sets::insert(q.attributes[v], numbers::wide(attribute));
+    q.attributes[v] = q.attributes[v].insert(u32::from(attribute));
     q
 }
 
@@ -332,36 +339,28 @@ fn with_record(s: Scheme, q: Asked, r: Record) -> Asked
 }
 
 // Whether a record is the end of a query.
+#[tactic(auto, unfolding(crate::specs::Reading::is_end, records::specs::Records::kind_of))]
 fn is_end(r: Record) -> bool
     ensures { result ≡ is_end r }
 {
-    records::kind_of(r) == 10
+    matches!(r, Record::OfQuery(QueryRecord::End))
 }
 
-// The fault of a body that is cut short, by its kind.
-fn short_fault(kind: u8) -> u8
-    ensures { result ≡ short_number of_query kind }
-{
-    if records::of_query(kind) { 3 } else { 2 }
-}
-
-// The number where no whole record stands.
-fn unread(found: Reading) -> u8
-    ensures { result ≡ stop_number found }
+// The fault where no whole record stands: a query does not end without its last record.
+fn unread(found: Reading) -> Option<Refusal>
+    ensures { number_of_any result ≡ stop_number found }
 {
     match found {
-        Reading::Nothing => 3,
-        Reading::Unknown => 2,
-        Reading::Short(kind) => short_fault(kind),
-        _ => 0,
+        Reading::Nothing => Some(Refusal::CutShort),
+        _ => records::unread(found, Owner::Query),
     }
 }
 
-// What the records of a query come to: the fault of the earliest faulty one, or 0 at the end of the query; what those
+// What the records of a query come to: the fault of the earliest faulty one, none at the end of the query; what those
 // accepted ask; the position where it stopped.
 #[derive(Clone, Copy)]
 struct Walked {
-    refusal: u8,
+    refusal: Option<Refusal>,
     asked: Asked,
     at: usize,
 }
@@ -369,7 +368,8 @@ struct Walked {
 // Reads record after record up to the end of the query.
 fn walk(bytes: &[u8], s: Scheme) -> Walked
     requires { length bytes.now ≤ 65536 }
-    ensures { result ≡ walked_of (walk_query s bytes.now) }
+    ensures value { result ≡ walked_of (walk_query s bytes.now) }
+    ensures numbered { number_of_any result.refusal ≡ (walk_query s bytes.now).number }
 {
     let mut asked = nothing_asked();
     let mut at: usize = 0;
@@ -382,13 +382,16 @@ fn walk(bytes: &[u8], s: Scheme) -> Walked
                 at,
             };
         };
-        let refusal = fault(s, asked, r);
-        if refusal != 0 {
-            return Walked { refusal, asked, at };
+        if let Err(refusal) = fault(s, asked, r) {
+            return Walked {
+                refusal: Some(refusal),
+                asked,
+                at,
+            };
         }
         if is_end(r) {
             return Walked {
-                refusal: 0,
+                refusal: None,
                 asked,
                 at: next,
             };
@@ -403,12 +406,10 @@ fn none_contains<'a>(sets: &'a [AttributeSet], maximal: &'a [ObjectSet], x: Attr
     requires { OBJECTS ≤ length sets.now }
     ensures { result ≡ is_nil (containing sets.now maximal.now x) }
 {
-    let mut i: usize = 0;
-    while i < maximal.len() {
-        if sets::within(x, scheme::attributes_of(sets, maximal[i])) {
+    for objects in maximal {
+        if x.within(scheme::attributes_of(sets, *objects)) {
             return false;
         }
-        i += 1;
     }
     true
 }
@@ -422,31 +423,28 @@ fn some_unconnected<'a>(
     requires { OBJECTS ≤ length sets.now }
     ensures { result ≡ some_unconnected sets.now maximal.now attributes }
 {
-    let mut v: usize = 0;
-    while v < 4 {
-        let x = attributes[v];
-        if !sets::is_empty(x) {
-            if none_contains(sets, maximal, x) {
+    for x in &attributes {
+        if !x.is_empty() {
+            if none_contains(sets, maximal, *x) {
                 return true;
             }
         }
-        v += 1;
     }
     false
 }
 
-// What is wrong with a query as a whole, 0 where nothing is.
-fn whole_fault(s: Scheme, maximal: &[ObjectSet], q: Asked) -> u8
-    ensures { result ≡ whole_number s maximal.now q }
+// What is wrong with a query as a whole.
+fn whole_fault(s: Scheme, maximal: &[ObjectSet], q: Asked) -> Result<(), Refusal>
+    ensures { number_of_check result ≡ whole_number s maximal.now q }
 {
     if q.retrieved == 0 {
-        return 10;
+        return Err(Refusal::NoItem);
     }
     let attributes = q.attributes;
     if some_unconnected(&s.sets, maximal, attributes) {
-        return 12;
+        return Err(Refusal::NoConnection);
     }
-    0
+    Ok(())
 }
 
 // Reads the bytes of a query over a book of scheme s and these maximal objects.
@@ -455,30 +453,29 @@ pub fn read(bytes: &[u8], s: Scheme, maximal: &[ObjectSet]) -> Query
 {
     if bytes.len() > 65536 {
         return Query {
-            refusal: 1,
+            refusal: Some(Refusal::TooManyBytes),
             asked: nothing_asked(),
             read: 0,
         };
     }
     let w = walk(bytes, s);
     let asked = w.asked;
-    if w.refusal != 0 {
+    if let Some(refusal) = w.refusal {
         return Query {
-            refusal: w.refusal,
+            refusal: Some(refusal),
             asked,
             read: 0,
         };
     }
-    let refusal = whole_fault(s, maximal, asked);
-    if refusal != 0 {
+    if let Err(refusal) = whole_fault(s, maximal, asked) {
         return Query {
-            refusal,
+            refusal: Some(refusal),
             asked,
             read: 0,
         };
     }
     Query {
-        refusal,
+        refusal: None,
         asked,
         read: w.at,
     }

@@ -10,6 +10,7 @@ use native.Mathlib.Numerals.{add-one}
 use lib.Dec.{lit<}
 use lib.ListN.{length, get_or, take, drop}
 use lib.Seq.{drop-cons, drop-drop, drop-nil, get_or-drop, take-nil}
+use Rattle.std.specs.Int.{w32, w64, from_le_bytes, to_le_bytes}
 use Rattle.records.specs.Fields.{AreBytes, bytes, value, field}
 
 -- ---- the bytes of a number
@@ -32,6 +33,14 @@ bytes_low w b v h =
     let low : (b + 256 * v) % 256 ≡ b = omega arith in
     let high : (b + 256 * v) / 256 ≡ v = omega arith in
     rw (low, high)
+
+-- A number of 32 bits is written as `to_le_bytes` gives it.
+pub bytes_four : (n : ℕ) → to_le_bytes w32 n ≡ bytes 4 n
+unfolding bytes
+bytes_four n =
+    let a : n / 65536 ≡ n / 256 / 256 = omega arith in
+    let b : n / 16777216 ≡ n / 256 / 256 / 256 = omega arith in
+    λ i. n % 256 ∷ n / 256 % 256 ∷ a i % 256 ∷ b i % 256 ∷ []
 
 -- ---- a number from its bytes, and back
 
@@ -69,32 +78,29 @@ pub field_one : (s : List ℕ) (at : ℕ) → field 1 s at ≡ get_or s at 0
 unfolding field value
 field_one s at = field_suc 0 s at ∙ add-zero (get_or s at 0)
 
-pub field_four : (s : List ℕ) (at b0 b1 b2 b3 : ℕ)
-    → b0 ≡ get_or s at 0 → b1 ≡ get_or s (at + 1) 0 → b2 ≡ get_or s (at + 2) 0 → b3 ≡ get_or s (at + 3) 0
-    → b0 + 256 * (b1 + 256 * (b2 + 256 * b3)) ≡ field 4 s at
-field_four s at b0 b1 b2 b3 e0 e1 e2 e3 =
-    simp (e0, e1, e2, e3, field_suc 3, field_suc 2, field_suc 1, field_one, add_assoc)
+pub field_four : (s : List ℕ) (at : ℕ) {n : ℕ}
+    → n ≡ from_le_bytes w32 (get_or s at 0 ∷ get_or s (at + 1) 0 ∷ get_or s (at + 2) 0 ∷ get_or s (at + 3) 0 ∷ [])
+    → n ≡ field 4 s at
+field_four s at e = simp (field_suc 3, field_suc 2, field_suc 1, field_one, add_assoc) (omega (arith, e))
 
-pub field_eight : (s : List ℕ) (at low high : ℕ) → low ≡ field 4 s at → high ≡ field 4 s (at + 4)
-    → low + 4294967296 * high ≡ field 8 s at
-field_eight s at low high e0 e1 =
-    omega (
-      arith,
-      e0,
-      e1,
-      field_suc 7 s at,
-      field_suc 6 s (at + 1),
-      field_suc 5 s (at + 1 + 1),
-      field_suc 4 s (at + 1 + 1 + 1),
-      field_suc 3 s at,
-      field_suc 2 s (at + 1),
-      field_suc 1 s (at + 1 + 1),
-      field_one s (at + 1 + 1 + 1),
-      ap (field 4 s) (add_ones at),
+pub field_eight : (s : List ℕ) (at : ℕ) {n : ℕ}
+    → n ≡ from_le_bytes w64
+    (get_or s at 0 ∷ get_or s (at + 1) 0 ∷ get_or s (at + 2) 0 ∷ get_or s (at + 3) 0
+    ∷ get_or s (at + 4) 0 ∷ get_or s (at + 5) 0 ∷ get_or s (at + 6) 0 ∷ get_or s (at + 7) 0 ∷ [])
+    → n ≡ field 8 s at
+field_eight s at e =
+    simp (
+      field_suc 7,
+      field_suc 6,
+      field_suc 5,
+      field_suc 4,
+      field_suc 3,
+      field_suc 2,
+      field_suc 1,
+      field_one,
+      add_assoc,
     )
-  where
-    add_ones : (n : ℕ) → n + 4 ≡ n + 1 + 1 + 1 + 1
-    add_ones n = omega arith
+    (omega (arith, e))
 
 -- A field of the bytes from position b on is a field of all of them.
 pub field_drop : (w : ℕ) (s : List ℕ) (b j : ℕ) → field w (drop b s) j ≡ field w s (b + j)

@@ -4,5 +4,6 @@ pub mod Reader
 pub mod Checks
 pub mod Walking
 pub mod Gathered
+pub mod Refused
 pub mod Theorems
 pub mod Examples

@@ -6,13 +6,14 @@ use mathlib.Core.Path.{◌≡◌, refl, sym, ap, ◌∙◌}
 use mathlib.Core.Bool.{true, false, not, false≢true}
 use mathlib.Core.Logic.{◌⊎◌, inl, inr}
 use mathlib.Core.List.{List, [], ◌∷◌, ◌++◌}
-use Prim.Native.Nat.{ℕ, ◌+◌, ◌*◌, ◌/◌, ◌%◌, ◌≤◌, ◌<◌}
+use Prim.Native.Nat.{ℕ, ◌+◌, ◌*◌, ◌≤◌, ◌<◌}
 use native.Mathlib.Nat.{add-zero}
 use native.Mathlib.Omega.{arith}
 use borrow.Author.Tests.{leb-true, eqb-true}
 use lib.Dec.{eqb, leb}
-use lib.ListN.{length, take, drop, get_or-eq_default}
+use lib.ListN.{length, take, drop, get_or, get_or-eq_default}
 use lib.Seq.{take-add}
+use Rattle.std.specs.Int.{w32, to_le_bytes}
 use Rattle.sets.proofs.Numbers.{lt_or_le, each_below}
 use Rattle.records.specs.Fields.{AreBytes, bytes, field}
 use Rattle.records.specs.Records.{kinds, whose, is_kind, of_book, of_query, body_length, kind_of, masks_of, bytes_of}
@@ -26,7 +27,7 @@ use Rattle.records.specs.declared.BookRecord.TheVariants.{Attribute, Object, Dep
 use Rattle.records.specs.declared.BookRecord.TheVariants.{Removed, ComparisonTable, OnlyDeclared}
 use Rattle.records.specs.declared.BookRecord.TheVariants.{DeclaredWide}
 use Rattle.records.specs.declared.QueryRecord.TheVariants.{Item, CompareTwo, CompareConstant, End}
-use Rattle.records.proofs.Fields.{value_bytes, bytes_field, field_drop, field_below}
+use Rattle.records.proofs.Fields.{bytes_four, value_bytes, bytes_field, field_drop, field_below}
 
 -- ---- kinds
 
@@ -38,6 +39,47 @@ whose_past k h = let past : 32 ≤ k * 2 = omega (arith, h) in get_or-eq_default
 pub body_length_past : (k : ℕ) → 16 ≤ k → body_length k ≡ 0
 unfolding body_length kinds
 body_length_past k h = let past : 32 ≤ k * 2 + 1 = omega (arith, h) in get_or-eq_default kinds 0 past
+
+-- the kinds of a book, those of a query, and the numbers between them that are no kind
+pub whose_low : (k : ℕ) → 1 ≤ k → k < 7 → whose k ≡ 1
+unfolding whose kinds
+whose_low k l h =
+    each_below (λ j. 1 ≤ j → whose j ≡ 1) 7
+    ((λ h. absurd (omega arith)), ((λ h. refl), ((λ h. refl), ((λ h. refl), ((λ h. refl), ((λ h. refl), ((λ h. refl), tt))))))) k h l
+
+pub whose_query : (k : ℕ) → 7 ≤ k → k < 11 → whose k ≡ 2
+unfolding whose kinds
+whose_query k l h =
+    each_below (λ j. 7 ≤ j → whose j ≡ 2) 11
+    ((λ h. absurd (omega arith)), ((λ h. absurd (omega arith)), ((λ h. absurd (omega arith)), ((λ h. absurd (omega arith)), ((λ h. absurd (omega arith)), ((λ h. absurd (omega arith)), ((λ h. absurd (omega arith)), ((λ h. refl), ((λ h. refl), ((λ h. refl), ((λ h. refl), tt))))))))))) k h l
+
+pub whose_high : (k : ℕ) → 13 ≤ k → k < 16 → whose k ≡ 1
+unfolding whose kinds
+whose_high k l h =
+    each_below (λ j. 13 ≤ j → whose j ≡ 1) 16
+    ((λ h. absurd (omega arith)), ((λ h. absurd (omega arith)), ((λ h. absurd (omega arith)), ((λ h. absurd (omega arith)), ((λ h. absurd (omega arith)), ((λ h. absurd (omega arith)), ((λ h. absurd (omega arith)), ((λ h. absurd (omega arith)), ((λ h. absurd (omega arith)), ((λ h. absurd (omega arith)), ((λ h. absurd (omega arith)), ((λ h. absurd (omega arith)), ((λ h. absurd (omega arith)), ((λ h. refl), ((λ h. refl), ((λ h. refl), tt)))))))))))))))) k h l
+
+pub whose_between : (k : ℕ) → 11 ≤ k → k < 13 → whose k ≡ 0
+unfolding whose kinds
+whose_between k l h =
+    each_below (λ j. 11 ≤ j → whose j ≡ 0) 13
+    ((λ h. absurd (omega arith)), ((λ h. absurd (omega arith)), ((λ h. absurd (omega arith)), ((λ h. absurd (omega arith)), ((λ h. absurd (omega arith)), ((λ h. absurd (omega arith)), ((λ h. absurd (omega arith)), ((λ h. absurd (omega arith)), ((λ h. absurd (omega arith)), ((λ h. absurd (omega arith)), ((λ h. absurd (omega arith)), ((λ h. refl), ((λ h. refl), tt))))))))))))) k h l
+
+pub whose_first : (k : ℕ) → k < 1 → whose k ≡ 0
+unfolding whose kinds
+whose_first k h = each_below (λ j. whose j ≡ 0) 1 (refl, tt) k h
+
+-- the other numbers have no body
+pub bodiless : (k : ℕ) → (k ≡ 1 → ⊥) → (k ≡ 2 → ⊥) → (k ≡ 3 → ⊥) → (k ≡ 4 → ⊥) → (k ≡ 5 → ⊥) → (k ≡ 6 → ⊥) → (k ≡ 7 → ⊥)
+    → (k ≡ 8 → ⊥) → (k ≡ 9 → ⊥) → (k ≡ 13 → ⊥) → (k ≡ 15 → ⊥) → 0 ≡ body_length k
+unfolding body_length kinds
+bodiless k a b c d e f g h i j l = choose (lt_or_le k 16)
+  where
+    choose : (k < 16) ⊎ (16 ≤ k) → 0 ≡ body_length k
+    choose (inr past) = sym (body_length_past k past)
+    choose (inl below) =
+        each_below (λ n. k ≡ n → 0 ≡ body_length n) 16
+        ((λ p. refl), ((λ p. absurd (a p)), ((λ p. absurd (b p)), ((λ p. absurd (c p)), ((λ p. absurd (d p)), ((λ p. absurd (e p)), ((λ p. absurd (f p)), ((λ p. absurd (g p)), ((λ p. absurd (h p)), ((λ p. absurd (i p)), ((λ p. refl), ((λ p. refl), ((λ p. refl), ((λ p. absurd (j p)), ((λ p. refl), ((λ p. absurd (l p)), tt)))))))))))))))) k below refl
 
 no_kind_past : (k : ℕ) → 16 ≤ k → is_kind k ≡ false
 unfolding is_kind
@@ -356,22 +398,22 @@ unfolding record_of bodies
 comparison_table_at s k b names lengths angles dates e e0 e1 e2 e3 = simp (e, e0, e1, e2, e3, field_drop, add-zero)
 
 -- the masks of a table, byte by byte
-pub masks_are : (names lengths angles dates : ℕ)
-    {m0 m1 m2 m3 m4 m5 m6 m7 m8 m9 m10 m11 m12 m13 m14 m15 : ℕ}
-    → m0 ≡ names % 256 → m1 ≡ names / 256 % 256
-    → m2 ≡ names / 256 / 256 % 256 → m3 ≡ names / 256 / 256 / 256 % 256
-    → m4 ≡ lengths % 256 → m5 ≡ lengths / 256 % 256
-    → m6 ≡ lengths / 256 / 256 % 256 → m7 ≡ lengths / 256 / 256 / 256 % 256
-    → m8 ≡ angles % 256 → m9 ≡ angles / 256 % 256
-    → m10 ≡ angles / 256 / 256 % 256 → m11 ≡ angles / 256 / 256 / 256 % 256
-    → m12 ≡ dates % 256 → m13 ≡ dates / 256 % 256
-    → m14 ≡ dates / 256 / 256 % 256 → m15 ≡ dates / 256 / 256 / 256 % 256
-    → m0 ∷ m1 ∷ m2 ∷ m3 ∷ m4 ∷ m5 ∷ m6 ∷ m7 ∷ m8 ∷ m9 ∷ m10 ∷ m11
-    ∷ m12 ∷ m13 ∷ m14 ∷ m15 ∷ [] ≡ masks_of names lengths angles dates
+pub masks_are : (names lengths angles dates : ℕ) {n l a d : List ℕ} → n ≡ to_le_bytes w32 names
+    → l ≡ to_le_bytes w32 lengths → a ≡ to_le_bytes w32 angles → d ≡ to_le_bytes w32 dates
+    → get_or n 0 0 ∷ get_or n 1 0 ∷ get_or n 2 0 ∷ get_or n 3 0
+    ∷ get_or l 0 0 ∷ get_or l 1 0 ∷ get_or l 2 0 ∷ get_or l 3 0
+    ∷ get_or a 0 0 ∷ get_or a 1 0 ∷ get_or a 2 0 ∷ get_or a 3 0
+    ∷ get_or d 0 0 ∷ get_or d 1 0 ∷ get_or d 2 0 ∷ get_or d 3 0 ∷ [] ≡ masks_of names lengths angles dates
 unfolding bytes
-masks_are names lengths angles dates e0 e1 e2 e3 e4 e5 e6 e7 e8 e9 e10 e11 e12 e13 e14 e15 =
-    λ i. e0 i ∷ e1 i ∷ e2 i ∷ e3 i ∷ e4 i ∷ e5 i ∷ e6 i ∷ e7 i ∷ e8 i ∷ e9 i ∷ e10 i ∷ e11 i
-    ∷ e12 i ∷ e13 i ∷ e14 i ∷ e15 i ∷ []
+masks_are names lengths angles dates {n} {l} {a} {d} e0 e1 e2 e3 =
+    let n4 : n ≡ bytes 4 names = e0 ∙ bytes_four names in
+    let l4 : l ≡ bytes 4 lengths = e1 ∙ bytes_four lengths in
+    let a4 : a ≡ bytes 4 angles = e2 ∙ bytes_four angles in
+    let d4 : d ≡ bytes 4 dates = e3 ∙ bytes_four dates in
+    λ i. get_or (n4 i) 0 0 ∷ get_or (n4 i) 1 0 ∷ get_or (n4 i) 2 0 ∷ get_or (n4 i) 3 0
+    ∷ get_or (l4 i) 0 0 ∷ get_or (l4 i) 1 0 ∷ get_or (l4 i) 2 0 ∷ get_or (l4 i) 3 0
+    ∷ get_or (a4 i) 0 0 ∷ get_or (a4 i) 1 0 ∷ get_or (a4 i) 2 0 ∷ get_or (a4 i) 3 0
+    ∷ get_or (d4 i) 0 0 ∷ get_or (d4 i) 1 0 ∷ get_or (d4 i) 2 0 ∷ get_or (d4 i) 3 0 ∷ []
 
 pub only_declared_at : (s : List ℕ) (k b : ℕ) → k ≡ 14 → OfBook OnlyDeclared ≡ record_of k (drop b s)
 unfolding record_of bodies

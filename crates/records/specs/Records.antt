@@ -3,7 +3,10 @@
 -- Not here: which values a field may have.
 -- Assumes nothing.
 use Rattle.std.specs.Prelude.{Bool, not, List, [], ◌∷◌, ◌++◌, map, ℕ, ◌+◌, ◌*◌, ◌^◌, ◌<◌, eqb, get_or}
+use Rattle.std.specs.Prelude.{Option, None, Some}
 use Rattle.records.specs.Fields.{bytes}
+use Rattle.records.specs.declared.Owner.{Owner}
+use Rattle.records.specs.declared.Owner.TheVariants.{Book, Query}
 use Rattle.records.specs.declared.Record.{Record}
 use Rattle.records.specs.declared.BookRecord.{BookRecord}
 use Rattle.records.specs.declared.QueryRecord.{QueryRecord}
@@ -35,6 +38,12 @@ kinds =
     ∷ 1 ∷ 8  -- 15: set of objects, in 8 bytes
     ∷ []
 
+-- The number of whose kind a byte is, as the table has it.
+abbrev pub owner_number : Option Owner → ℕ
+owner_number None = 0
+owner_number (Some Book) = 1
+owner_number (Some Query) = 2
+
 -- Whose kind k is, and the bytes of its body; 0 for a number that is no kind.
 unfoldable pub whose : ℕ → ℕ
 whose k = get_or kinds (k * 2) 0
@@ -47,6 +56,11 @@ of_book k = eqb (whose k) 1
 
 unfoldable pub of_query : ℕ → Bool
 of_query k = eqb (whose k) 2
+
+-- the kinds that may stand where the records of an owner are read
+abbrev pub allowed_to : Owner → ℕ → Bool
+allowed_to Book = of_book
+allowed_to Query = of_query
 
 unfoldable pub is_kind : ℕ → Bool
 is_kind k = not (eqb (whose k) 0)

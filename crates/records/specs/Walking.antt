@@ -4,8 +4,10 @@
 -- walk stops. That walking computes exactly this is a theorem (`Statements`).
 -- Assumes nothing.
 use Rattle.std.specs.Prelude.{◌≡◌, Bool, true, false, List, [], ◌∷◌, ◌++◌, ℕ, zero, suc, ◌≤◌, ◌<◌, eqb, length, get_or}
-use Rattle.records.specs.Records.{is_kind, kind_of}
+use Rattle.records.specs.Records.{is_kind, kind_of, allowed_to}
 use Rattle.records.specs.Reader.{read_at, CutShort, Whole}
+use Rattle.records.specs.declared.Owner.{Owner}
+use Rattle.records.specs.declared.Reading.{Reading}
 use Rattle.records.specs.declared.Record.{Record}
 use Rattle.records.specs.declared.Reading.TheVariants.{Nothing, Unknown, Short, Found}
 
@@ -40,6 +42,13 @@ pub record Stop (S : Type 0) : Type 0 where
 -- "kind not allowed 2; body cut short 3" of a body that is cut short
 unfoldable pub short_number : (ℕ → Bool) → ℕ → ℕ
 short_number allowed k = elim (allowed k) [ true ↦ 3 | false ↦ 2 ]
+
+-- of what stands where no whole record does: 0 at the end
+unfoldable pub unread_number : Owner → Reading → ℕ
+unread_number owner Nothing = 0
+unread_number owner Unknown = 2
+unread_number owner (Short k) = short_number (allowed_to owner) k
+unread_number owner (Found r next) = 0
 
 -- from position at on, in a state. Each record is a byte or more, so there are at most n where n bytes are left
 unfoldable pub walk_from : {S : Type 0} → Rules S → ℕ → List ℕ → ℕ → S → Stop S

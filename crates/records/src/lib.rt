@@ -2,11 +2,14 @@
 #![tactic(auto)]
 
 ghost use Rattle.std.specs.Prelude.{◌≡◌, true, ◌+◌, ◌%◌, ◌≤◌, ◌<◌, length, drop};
+ghost use Rattle.refusals.specs.Refusals.{number_of, number_of_any};
 ghost use Rattle.records.specs.Fields.{field};
-ghost use Rattle.records.specs.Records.{whose, body_length, is_kind, of_book, of_query, kind_of, masks_of};
+ghost use Rattle.records.specs.Records.{owner_number, whose, body_length, is_kind, of_book, of_query, kind_of, masks_of};
+ghost use Rattle.records.specs.Records.{allowed_to};
 ghost use Rattle.records.specs.Reader.{record_of, read_at};
+ghost use Rattle.records.specs.Walking.{short_number, unread_number};
 
-use numbers::{long, place, wide};
+use refusals::Refusal;
 
 // A record of a book, in the order of the paper's table: kinds 1 to 6, 13, 14 and 15. A comparison table has a word
 // for each left kind, whose bytes are the masks of the right kinds, the lowest first.
@@ -94,12 +97,12 @@ pub enum Reading {
     Found(Record, usize),
 }
 
-// The table of kinds, two numbers for each byte from 0 on: whose kind it is (0 no one's, 1 a book's, 2 a query's), and the
-// length of its body.
-const KINDS: [u8; 32] = [
-    0, 0, 1, 2, 1, 5, 1, 8, 1, 25, 1, 4, 1, 4, 2, 2, 2, 5, 2, 7, 2, 0, 0, 0, 0, 0, 1, 16, 1, 0, 1,
-    8,
-];
+// Whose kind a byte is.
+#[derive(Clone, Copy, PartialEq, Eq, Debug)]
+pub enum Owner {
+    Book,
+    Query,
+}
 
 // The field of one byte at a position.
 pub fn byte_at(s: &[u8], at: usize) -> u8
@@ -114,11 +117,7 @@ pub fn word_at(s: &[u8], at: usize) -> u32
     requires { at + 4 ≤ length s.now }
     ensures { result ≡ field 4 s.now at }
 {
-    let b0 = wide(s[at]);
-    let b1 = wide(s[at + 1]);
-    let b2 = wide(s[at + 2]);
-    let b3 = wide(s[at + 3]);
-    b0 + 256 * (b1 + 256 * (b2 + 256 * b3))
+    u32::from_le_bytes([s[at], s[at + 1], s[at + 2], s[at + 3]])
 }
 
 // The field of eight bytes at a position, the lowest first: a set of objects.
@@ -126,44 +125,61 @@ pub fn long_at(s: &[u8], at: usize) -> u64
     requires { at + 8 ≤ length s.now }
     ensures { result ≡ field 8 s.now at }
 {
-    let low = long(word_at(s, at));
-    let high = long(word_at(s, at + 4));
-    low + 4294967296 * high
+    u64::from_le_bytes([
+        s[at],
+        s[at + 1],
+        s[at + 2],
+        s[at + 3],
+        s[at + 4],
+        s[at + 5],
+        s[at + 6],
+        s[at + 7],
+    ])
 }
 
-// Whose kind a byte is: 0 no one's, 1 a book's, 2 a query's.
-fn whose(kind: u8) -> u8
-    ensures { result ≡ whose kind }
+// Whose kind a byte is, if it is one.
+#[tactic(auto, using(crate::proofs::Records::whose_low, crate::proofs::Records::whose_query, crate::proofs::Records::whose_high, crate::proofs::Records::whose_between, crate::proofs::Records::whose_first, crate::proofs::Records::whose_past))]
+fn whose(kind: u8) -> Option<Owner>
+    ensures { owner_number result ≡ whose kind }
 {
-    let at: usize = place(kind) * 2;
-    if at < 32 { KINDS[at] } else { 0 }
+    match kind {
+        1..=6 | 13..=15 => Some(Owner::Book),
+        7..=10 => Some(Owner::Query),
+        _ => None,
+    }
 }
 
 // How many bytes the body of a kind has, the kind byte not counted.
 pub fn body_length(kind: u8) -> usize
     ensures { result ≡ body_length kind }
 {
-    let at: usize = place(kind) * 2 + 1;
-    if at < 32 { place(KINDS[at]) } else { 0 }
+    match kind {
+        1 => 2,
+        2 => 5,
+        3 => 8,
+        4 => 25,
+        5 => 4,
+        6 => 4,
+        7 => 2,
+        8 => 5,
+        9 => 7,
+        13 => 16,
+        15 => 8,
+        _ => 0,
+    }
 }
 
-// Whether a byte is a kind of the table; of a book; of a query.
+// Whether a byte is a kind of the table, and whether it is one of an owner's.
 pub fn is_kind(kind: u8) -> bool
     ensures { result ≡ is_kind kind }
 {
-    whose(kind) != 0
+    whose(kind).is_some()
 }
 
-pub fn of_book(kind: u8) -> bool
-    ensures { result ≡ of_book kind }
+pub fn is_of(kind: u8, owner: Owner) -> bool
+    ensures { result ≡ allowed_to owner kind }
 {
-    whose(kind) == 1
-}
-
-pub fn of_query(kind: u8) -> bool
-    ensures { result ≡ of_query kind }
-{
-    whose(kind) == 2
+    whose(kind) == Some(owner)
 }
 
 // The kind of a record of a book, and of a query.
@@ -171,28 +187,15 @@ fn kind_of_book(r: BookRecord) -> u8
     ensures { result ≡ kind_of (Record.OfBook r) }
 {
     match r {
-        BookRecord::Attribute { id: _, kind: _ } => 1,
-        BookRecord::Object { number: _, set: _ } => 2,
-        BookRecord::Dependency { left: _, right: _ } => 3,
-        BookRecord::Row {
-            object: _,
-            c0: _,
-            c1: _,
-            c2: _,
-            c3: _,
-            c4: _,
-            c5: _,
-        } => 4,
-        BookRecord::Declared { set: _ } => 5,
-        BookRecord::Removed { set: _ } => 6,
-        BookRecord::ComparisonTable {
-            names: _,
-            lengths: _,
-            angles: _,
-            dates: _,
-        } => 13,
+        BookRecord::Attribute { .. } => 1,
+        BookRecord::Object { .. } => 2,
+        BookRecord::Dependency { .. } => 3,
+        BookRecord::Row { .. } => 4,
+        BookRecord::Declared { .. } => 5,
+        BookRecord::Removed { .. } => 6,
+        BookRecord::ComparisonTable { .. } => 13,
         BookRecord::OnlyDeclared => 14,
-        BookRecord::DeclaredWide { set: _ } => 15,
+        BookRecord::DeclaredWide { .. } => 15,
     }
 }
 
@@ -200,23 +203,9 @@ fn kind_of_query(r: QueryRecord) -> u8
     ensures { result ≡ kind_of (Record.OfQuery r) }
 {
     match r {
-        QueryRecord::Item {
-            variable: _,
-            attribute: _,
-        } => 7,
-        QueryRecord::CompareTwo {
-            variable: _,
-            attribute: _,
-            operator: _,
-            variable2: _,
-            attribute2: _,
-        } => 8,
-        QueryRecord::CompareConstant {
-            variable: _,
-            attribute: _,
-            operator: _,
-            cell: _,
-        } => 9,
+        QueryRecord::Item { .. } => 7,
+        QueryRecord::CompareTwo { .. } => 8,
+        QueryRecord::CompareConstant { .. } => 9,
         QueryRecord::End => 10,
     }
 }
@@ -260,34 +249,16 @@ fn comparison_table(s: &[u8], body: usize) -> BookRecord
     }
 }
 
-// The lowest byte of a word.
-fn lowest(word: u32) -> u8
-    ensures { result ≡ word % 256 }
-{
-    (word % 256) as u8
-}
-
 // The masks of a comparison table, from its words.
 pub fn masks_of(names: u32, lengths: u32, angles: u32, dates: u32) -> [u8; 16]
     ensures { result ≡ masks_of names lengths angles dates }
 {
+    let [n0, n1, n2, n3] = names.to_le_bytes();
+    let [l0, l1, l2, l3] = lengths.to_le_bytes();
+    let [a0, a1, a2, a3] = angles.to_le_bytes();
+    let [d0, d1, d2, d3] = dates.to_le_bytes();
     [
-        lowest(names),
-        lowest(names / 256),
-        lowest(names / 256 / 256),
-        lowest(names / 256 / 256 / 256),
-        lowest(lengths),
-        lowest(lengths / 256),
-        lowest(lengths / 256 / 256),
-        lowest(lengths / 256 / 256 / 256),
-        lowest(angles),
-        lowest(angles / 256),
-        lowest(angles / 256 / 256),
-        lowest(angles / 256 / 256 / 256),
-        lowest(dates),
-        lowest(dates / 256),
-        lowest(dates / 256 / 256),
-        lowest(dates / 256 / 256 / 256),
+        n0, n1, n2, n3, l0, l1, l2, l3, a0, a1, a2, a3, d0, d1, d2, d3,
     ]
 }
 
@@ -367,9 +338,31 @@ pub fn read(s: &[u8], at: usize) -> Reading
     if s.len() - body < len {
         return Reading::Short(kind);
     }
-    if of_book(kind) {
+    if is_of(kind, Owner::Book) {
         Reading::Found(Record::OfBook(book_record(s, kind, body)), body + len)
     } else {
         Reading::Found(Record::OfQuery(query_record(s, kind, body)), body + len)
+    }
+}
+
+// The fault of a body that is cut short, where the records of an owner are read.
+fn short_fault(kind: u8, owner: Owner) -> Refusal
+    ensures { number_of result ≡ short_number (allowed_to owner) kind }
+{
+    if is_of(kind, owner) {
+        Refusal::CutShort
+    } else {
+        Refusal::KindNotAllowed
+    }
+}
+
+// The fault where no whole record stands, and none at the end of the bytes.
+pub fn unread(found: Reading, owner: Owner) -> Option<Refusal>
+    ensures { number_of_any result ≡ unread_number owner found }
+{
+    match found {
+        Reading::Unknown => Some(Refusal::KindNotAllowed),
+        Reading::Short(kind) => Some(short_fault(kind, owner)),
+        _ => None,
     }
 }

@@ -8,6 +8,13 @@ use mathlib.Core.Logic.{⊎_elim}
 use mathlib.Core.List.{List, [], ◌++◌, map}
 use Prim.Native.Nat.{ℕ, ◌+◌, ◌≤◌, ◌<◌, ◌^◌}
 use native.Mathlib.Omega.{arith}
+use Rattle.std.proofs.Common.{None, Some, Option, Ok, Err}
+use Rattle.std.specs.Prelude.{is_some}
+use Rattle.std.specs.Result.{result_unwrap_or}
+use Rattle.refusals.specs.declared.Refusal.{Refusal}
+use Rattle.refusals.specs.Refusals as Refusals
+use Rattle.refusals.specs.Refusals.{number_of_any}
+use Rattle.refusals.proofs.Numbers.{numbered_exactly}
 use borrow.Author.Tests.{eq-eqb, ne_eqb, lt-ltb, le-ltb, eqb-true, eqb-false}
 use lib.Dec.{eqb, ltb}
 use lib.ListN.{length, get_or, take, drop}
@@ -24,13 +31,13 @@ use Rattle.terms.specs.Terms.{TermsOf}
 use Rattle.connection.specs.declared.Answer.{Answer}
 use Rattle.connection.specs.Answers.{kind_of, item_kinds}
 use Rattle.connection.specs.Answering.{query_read, rows_answered, number, refused, answer_of, space_after}
-use Rattle.connection.proofs.Theorems.{answer_number_means}
+use Rattle.connection.proofs.Numbered.{some_number}
+use Rattle.connection.proofs.Theorems.{answer_number_means, refusal_numbered}
 use Rattle.answer.specs.Asked.{AskedBy, Askable, AnswersAsked, FillsAsked}
 use Rattle.answer.proofs.Returning.{number_is, scheme_is, query_number, asked_ready, refused_query_law, asked_by}
 use Rattle.answer.proofs.Returning.{answered_whole}
 use Rattle.printout.specs.Lines.{book_refused, query_refused}
-use Rattle.printout.specs.Printing.{printed, after, answer_printed, after_answer}
-use Rattle.printout.specs.declared.Printed.{Printed}
+use Rattle.printout.specs.Printing.{Printed, printed, after, answer_printed, after_answer}
 use Rattle.printout.proofs.Theorems.{text_printed, answer_printed_law, room_enough}
 use Rattle.run.specs.declared.Stepped.{Stepped}
 use Rattle.run.specs.declared.ItemKinds.{ItemKinds}
@@ -52,6 +59,26 @@ stands : (text out : List ℕ) {p : Printed} {n : ℕ} {end : List ℕ} → leng
 unfolding bytes_of
 stands text out h k e f =
     let (w, a) = (text_printed text out).whole h in (k ∙ ap bytes_of (e ∙ w), f ∙ a)
+
+-- how many bytes were printed
+pub unwrapped : (p : Printed) {n : ℕ} → n ≡ result_unwrap_or p 0 → n ≡ bytes_of p
+unfolding bytes_of
+unwrapped (Ok m) e = e
+unwrapped (Err x) e = e
+
+-- ---- a refusal that may be none
+
+pub some_given : (o : Option Refusal) → is_some o ≡ true → number_of_any o ≡ 0 → ⊥
+some_given None y z = cc
+some_given (Some r) y z = some_number r z
+
+none_numbered : (o : Option Refusal) → number_of_any o ≡ 0 → o ≡ None
+none_numbered None z = refl
+none_numbered (Some r) z = absurd (some_number r z)
+
+pub none_given : (o : Option Refusal) → is_some o ≡ false → o ≡ None
+none_given None y = refl
+none_given (Some r) y = cc
 
 -- ---- the opening
 
@@ -130,19 +157,19 @@ module _ (b : List ℕ) {book : Book} (e : book ≡ book_of (read b)) (q : List 
     are = ap (λ (i : ℕ). take i k.kinds) z.0 ∙ sym n;
   }
 
-  pub kinds_no_book : {k : ItemKinds} → (book.refusal ≡ 0 → ⊥) → NoKinds k → ItemKindsOf b q k
+  pub kinds_no_book : {k : ItemKinds} → (number_of_any book.refusal ≡ 0 → ⊥) → NoKinds k → ItemKindsOf b q k
   kinds_no_book d z = none_are z (none_of_book b q (λ y. d (number_is b e ∙ y)))
 
-  module _ (y : book.refusal ≡ 0) {maximal : List ℕ} {query : Query}
+  module _ (y : book.refusal ≡ None) {maximal : List ℕ} {query : Query}
       (m : maximal ≡ take book.maximals book.maximal)
       (w : query ≡ Querying.query_of (Querying.read book.scheme maximal q)) where
     good_number : (read b).number ≡ 0
-    good_number = sym (number_is b e) ∙ y
+    good_number = sym (number_is b e) ∙ ap number_of_any y
 
-    pub kinds_no_query : {k : ItemKinds} → (query.refusal ≡ 0 → ⊥) → NoKinds k → ItemKindsOf b q k
+    pub kinds_no_query : {k : ItemKinds} → (number_of_any query.refusal ≡ 0 → ⊥) → NoKinds k → ItemKindsOf b q k
     kinds_no_query d z = none_are z (none_of_query b q (λ x. d (query_number b e y q m w ∙ x)))
 
-    module _ (x : query.refusal ≡ 0) where
+    module _ (x : query.refusal ≡ None) where
       pub query_there : GoodAsked book query.asked
       query_there = record { bytes = b; is_read = e; askable = record { asking = _; by = asked_by b e y q m w x } }
 
@@ -152,7 +179,7 @@ module _ (b : List ℕ) {book : Book} (e : book ≡ book_of (read b)) (q : List 
         few = k.few;
         are =
             k.each b (query_read (read b) q).asking e (asked_by b e y q m w x)
-            ∙ sym (those_of_items b q good_number (sym (query_number b e y q m w) ∙ x));
+            ∙ sym (those_of_items b q good_number (sym (query_number b e y q m w) ∙ ap number_of_any x));
       }
 
 -- ---- a step
@@ -170,37 +197,31 @@ module _ (b q : List ℕ) (serial : ℕ) (space out : List ℕ) (long : length s
 
   -- ---- one that is refused
 
-  answer_number : (a.refusal ≡ 0 → ⊥) → number_of b q serial ≡ 0 → ⊥
-  unfolding answer_of
-  answer_number d z =
-      d (ap (λ (x : Answer). x.refusal) answer_here ∙ rw (answer_of, eq-eqb (number_of b q serial) 0 z))
+  number_given : number_of_any a.refusal ≡ number_of b q serial
+  number_given =
+      ap (λ (x : Answer). number_of_any x.refusal) answer_here ∙ (refusal_numbered b q serial room).numbered
 
-  number_given : (number_of b q serial ≡ 0 → ⊥) → a.refusal ≡ number_of b q serial
-  unfolding answer_of refused
-  number_given d =
-      ap (λ (x : Answer). x.refusal) answer_here ∙ rw (answer_of, ne_eqb (number_of b q serial) 0 d)
-
-  pub step_ends : {r : Stepped} {end : List ℕ} → (a.refusal ≡ 0 → ⊥) → r ≡ stopped a.refusal serial
-      → end ≡ query_refused a.refusal ++ drop (length (query_refused a.refusal)) out
+  pub step_ends : {r : Stepped} {end : List ℕ} {refusal : Refusal} → a.refusal ≡ Some refusal
+      → r ≡ stopped (Refusals.number_of refusal) serial
+      → end ≡ query_refused (Refusals.number_of refusal) ++ drop (length (query_refused (Refusals.number_of refusal))) out
       → Steps b q serial space out r cells end
-  step_ends d k f =
-      let c = answer_number d in
-      let t : query_refused a.refusal ≡ text_of b q serial =
-      ap query_refused (number_given c) ∙ text_refused b q serial c in (
-        k ∙ ap (λ (v : ℕ). stopped v serial) (number_given c) ∙ step_refused_fact b q serial c,
+  step_ends {refusal = refusal} i k f =
+      let same : Refusals.number_of refusal ≡ number_of b q serial = sym (ap number_of_any i) ∙ number_given in
+      let c : number_of b q serial ≡ 0 → ⊥ = λ z. some_number refusal (same ∙ z) in
+      let t : query_refused (Refusals.number_of refusal) ≡ text_of b q serial =
+      ap query_refused same ∙ text_refused b q serial c in (
+        k ∙ ap (λ (v : ℕ). stopped v serial) same ∙ step_refused_fact b q serial c,
         (s, f ∙ ap (λ (l : List ℕ). l ++ drop (length l) out) t),
       )
 
   -- ---- one that is answered
 
-  module _ (z : a.refusal ≡ 0) where
+  module _ (z : a.refusal ≡ None) where
     answered_number : number_of b q serial ≡ 0
-    answered_number =
-        ⊎_elim (λ y. eqb-true (number_of b q serial) 0 y)
-        (λ n. sym (number_given (eqb-false (number_of b q serial) 0 n)) ∙ z) (yes_or_no (eqb (number_of b q serial) 0))
+    answered_number = sym number_given ∙ ap number_of_any z
 
     answer_is : a ≡ record {
-      refusal = 0;
+      refusal = None;
       rows = length (rows_answered b q);
       serial = serial + 1;
       read = (query_read (read b) q).read;
@@ -239,19 +260,19 @@ module _ (b q : List ℕ) (serial : ℕ) (space out : List ℕ) (long : length s
     {book : Book} (e : book ≡ book_of (read b)) (y : (read b).number ≡ 0) {maximal : List ℕ} {query : Query}
     (m : maximal ≡ take book.maximals book.maximal)
     (w : query ≡ Querying.query_of (Querying.read book.scheme maximal q)) where
-  good_here : book.refusal ≡ 0
-  good_here = number_is b e ∙ y
+  pub good_here : book.refusal ≡ None
+  good_here = none_numbered book.refusal (number_is b e ∙ y)
 
-  pub query_ends : {r : Stepped} {end : List ℕ} → (query.refusal ≡ 0 → ⊥) → r ≡ stopped query.refusal serial
-      → end ≡ query_refused query.refusal ++ drop (length (query_refused query.refusal)) out
+  pub query_ends : {r : Stepped} {end : List ℕ} {refusal : Refusal} → query.refusal ≡ Some refusal
+      → r ≡ stopped (Refusals.number_of refusal) serial
+      → end ≡ query_refused (Refusals.number_of refusal) ++ drop (length (query_refused (Refusals.number_of refusal))) out
       → Steps b q serial space out r space end
   unfolding refused
-  query_ends d k f =
-      let r : Answer = record { refusal = query.refusal; rows = 0; serial = serial; read = 0 } in
-      let (a, s) = refused_query_law b e good_here q m w serial space {r = r} d refl in
-      step_ends b q serial space out long fits a s d k f
+  query_ends {refusal = refusal} i k f =
+      let (a, s) = refused_query_law b e good_here q m w serial space {r = refused (Refusals.number_of refusal) serial} i refl in
+      step_ends b q serial space out long fits a s ((numbered_exactly refusal 0).of_its_number) k f
 
-  module _ (x : query.refusal ≡ 0) where
+  module _ (x : query.refusal ≡ None) where
     pub query_asked : Askable query.asked
     query_asked = record { asking = _; by = asked_by b e good_here q m w x }
 
@@ -261,12 +282,13 @@ module _ (b q : List ℕ) (serial : ℕ) (space out : List ℕ) (long : length s
       given : (a ≡ answer_of b q serial (length space)) × (cells ≡ space_after b q serial space)
       given = answered_whole b e good_here q m w x space f g
 
-      pub asked_ends : {r : Stepped} {end : List ℕ} → (a.refusal ≡ 0 → ⊥) → r ≡ stopped a.refusal serial
-          → end ≡ query_refused a.refusal ++ drop (length (query_refused a.refusal)) out
+      pub asked_ends : {r : Stepped} {end : List ℕ} {refusal : Refusal} → a.refusal ≡ Some refusal
+          → r ≡ stopped (Refusals.number_of refusal) serial
+          → end ≡ query_refused (Refusals.number_of refusal) ++ drop (length (query_refused (Refusals.number_of refusal))) out
           → Steps b q serial space out r cells end
       asked_ends = step_ends b q serial space out long fits given.0 given.1
 
-      pub asked_goes_on : {k : ItemKinds} {end : List ℕ} {p : Printed} {n : ℕ} → a.refusal ≡ 0 → serial < 2 ^ 32
+      pub asked_goes_on : {k : ItemKinds} {end : List ℕ} {p : Printed} {n : ℕ} → a.refusal ≡ None → serial < 2 ^ 32
           → KindsOf book query.asked k → n ≡ bytes_of p
           → p ≡ answer_printed a.serial a.rows (take k.items k.kinds) cells out
           → end ≡ after_answer a.serial a.rows (take k.items k.kinds) cells out

@@ -2,13 +2,12 @@
 -- In order: one query, the queries of the input, the whole printout, what the code gives.
 -- Not here: the lines (`printout`), the answer to a query (`connection`).
 -- Assumes nothing.
-use Rattle.std.specs.Prelude.{true, false, List, [], ◌∷◌, ◌++◌, ℕ, zero, suc, ◌+◌, eqb, ltb, length, drop}
+use Rattle.std.specs.Prelude.{Ok, Err, true, false, List, [], ◌∷◌, ◌++◌, ℕ, zero, suc, ◌+◌, eqb, ltb, length, drop}
 use Rattle.book.specs.Reading.{read}
 use Rattle.connection.specs.Answers.{item_kinds}
 use Rattle.connection.specs.Answering.{query_read, rows_answered, number}
 use Rattle.printout.specs.Lines.{head_line, row_lines, book_refused, query_refused}
-use Rattle.printout.specs.declared.Printed.{Printed}
-use Rattle.printout.specs.declared.Printed.TheVariants.{Bytes, NoRoom, NotFit}
+use Rattle.printout.specs.Printing.{Printed}
 use Rattle.run.specs.declared.Stepped.{Stepped}
 
 -- ---- one query, at the front of the bytes q
@@ -78,9 +77,8 @@ printout b input =
 
 -- the bytes of a text that was printed
 unfoldable pub bytes_of : Printed → ℕ
-bytes_of (Bytes n) = n
-bytes_of NoRoom = 0
-bytes_of NotFit = 0
+bytes_of (Ok n) = n
+bytes_of (Err e) = 0
 
 unfoldable pub opening_of : ℕ → ℕ → Stepped
 opening_of refusal input = record {

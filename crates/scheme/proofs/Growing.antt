@@ -1,12 +1,13 @@
 -- Grown sets: the set that is grown from a start is the least one that holds it and to which no object can be added, so
 -- it is the same in whatever order objects are held.
--- In order: the attributes held, the rule, one round, the grown set, every order.
+-- In order: the attributes held, the rule, one round, the grown set, every order, who was asked.
 -- Assumes nothing.
 use mathlib.Core.Path.{◌≡◌, refl, sym, ap, ◌∙◌, subst}
 use mathlib.Core.Bool.{Bool, true, false, ◌&&◌, ◌||◌}
 use mathlib.Core.Logic.{◌⊎◌, inl, inr, ⊎_elim}
 use mathlib.Core.List.Memᴰ
 use mathlib.Core.List.{List, [], ◌∷◌, map, Memᴰ}
+use Rattle.std.proofs.Common.{Option, Some, None, IfSome}
 use Prim.Native.Nat.{ℕ, zero, suc, ◌+◌, ◌^◌, ◌≤◌, ◌<◌}
 use native.Mathlib.Nat.{not-suc-le-zero, le_of_suc-le-suc, eq-or-lt_of_le, lt_trans, le_refl}
 use native.Mathlib.Omega.{arith}
@@ -317,3 +318,10 @@ module _ (D : List Dependency) (sets : List ℕ) (objects : ℕ) where
             every = λ G v. every_order v;
             some = subst (Holding D sets objects (single start)) (every_order w.1) w.1;
           }
+
+-- an object that is declared and not held, where the objects may have been asked before: it did not join then
+pub asked_apart : (D : List Dependency) (sets : List ℕ) {objects H k : ℕ} (asked : Option ℕ)
+    → IfSome asked (NotJoined D sets objects H) → k < OBJECTS → k ∈ objects → k ∉ H
+    → IfSome asked (λ before. within (get_or sets k 0) (closure D (get_or sets k 0 ∩ before)) ≡ false)
+asked_apart D sets None q h i o = q
+asked_apart D sets (Some before) q h i o = q.apart _ h i o

@@ -3,17 +3,18 @@
 -- In order: one pass, the sets of the members of a set, their attributes, one round.
 -- Not here: passes and rounds (`Repeating`), searches (`Lists`), removals and declarations (`ListLoops`).
 -- Assumes nothing.
-use mathlib.Core.Path.{◌≡◌, refl, sym, ap, ap₂, ◌∙◌}
+use mathlib.Core.Path.{◌≡◌, refl, sym, ap, ap₂, ◌∙◌, subst}
 use mathlib.Core.Bool.{Bool, true, false, ◌&&◌, ◌||◌}
 use mathlib.Core.List.{List, [], ◌∷◌, ◌++◌, map, append-nil}
-use Prim.Native.Nat.{ℕ, suc, ◌+◌, ◌-◌, ◌≤◌, ◌<◌}
-use native.Mathlib.Nat.{sub-zero}
+use Prim.Native.Nat.{ℕ, ◌+◌, ◌≤◌, ◌<◌, min}
+use mathlib.Core.Logic.{⊎_elim}
 use native.Mathlib.Numerals.{add-one, add-one-le}
 use native.Mathlib.Omega.{arith}
-use lib.ListN.{length, get_or, drop, take, set, length-map}
+use lib.ListN.{length, get_or, drop, take, set, length-map, drop_of_length-le}
 use Rattle.sets.specs.Sets.{has, within, ◌∩◌, ◌∪◌, insert, kept, members, OBJECTS}
 use Rattle.sets.proofs.Tests.{and_yes, or_left, or_right, or_no}
 use Rattle.sets.proofs.Sets.{∪_assoc, ∪_zero_left, ∪_zero_right}
+use Rattle.sets.proofs.Numbers.{lt_or_le}
 use Rattle.sets.proofs.Ranks.{rank_le}
 use Rattle.sets.proofs.Members.{length_members}
 use Rattle.reduction.specs.Steps.{Family}
@@ -22,52 +23,61 @@ use Rattle.reduction.specs.Packed.{padded, packed}
 use Rattle.reduction.specs.declared.SetList.{SetList}
 use Rattle.scheme.specs.Dependencies.{Dependency, pass, closure}
 use Rattle.scheme.specs.Growing.{family_of, attributes_of, joins, holding, round}
-use Rattle.scheme.specs.OfScheme.{pairs, Sides}
+use Rattle.scheme.specs.OfScheme.{pairs, beside}
 use Rattle.scheme.proofs.Closing.{after}
 use Rattle.scheme.proofs.Lists.{drop_at}
 use Rattle.scheme.proofs.Packing.{Listing, listing_more, listing_same, listing_take, packed_listing}
 
--- ---- one pass: the dependencies from i on, from what is gathered, give what all of them give
+-- ---- one pass: the sides from i on, from what is gathered, give what all of them give
 
-pub record PassSoFar (n : ℕ) (ls rs : List ℕ) (A i all : ℕ) : Type 0 where
-  pub inside : i ≤ n
-  pub rest : pass (pairs (n - i) (drop i ls) (drop i rs)) all ≡ pass (pairs n ls rs) A
+pub record PassSoFar (ls rs : List ℕ) (A i all : ℕ) : Type 0 where
+  pub rest : pass (beside (drop i ls) (drop i rs)) all ≡ pass (beside ls rs) A
 
-pub pass_start : (n : ℕ) (ls rs : List ℕ) (A : ℕ) → PassSoFar n ls rs A 0 A
-pass_start n ls rs A = record { inside = omega arith; rest = ap (λ (k : ℕ). pass (pairs k ls rs) A) (sub-zero n) }
+pub pass_start : (ls rs : List ℕ) (A : ℕ) → PassSoFar ls rs A 0 A
+pass_start ls rs A = record { rest = refl }
 
-module _ {n : ℕ} {ls rs : List ℕ} {A i all : ℕ} (o : Sides n ls rs) (v : PassSoFar n ls rs A i all)
-    (h : i < n) where
-  pass_front : pass (pairs (n - (i + 1)) (drop (i + 1) ls) (drop (i + 1) rs))
+module _ {ls rs : List ℕ} {A i all : ℕ} (v : PassSoFar ls rs A i all) (h : i < length ls) (g : i < length rs) where
+  pass_front : pass (beside (drop (i + 1) ls) (drop (i + 1) rs))
       (after (record { left = get_or ls i 0; right = get_or rs i 0 }) all)
-      ≡ pass (pairs n ls rs) A
+      ≡ pass (beside ls rs) A
   unfolding pass pairs
-  pass_front =
-      let q : n - i ≡ suc (n - (i + 1)) = omega arith in
-      let l : i < length ls = omega (arith, o.left_there) in
-      let r : i < length rs = omega (arith, o.right_there) in
-      sym (ap (λ (k : ℕ). pass (pairs k (drop i ls) (drop i rs)) all) q
-      ∙ ap₂ (λ (x y : List ℕ). pass (pairs (suc (n - (i + 1))) x y) all) (drop_at ls l) (drop_at rs r))
-      ∙ v.rest
+  pass_front = sym (ap₂ (λ (x y : List ℕ). pass (beside x y) all) (drop_at ls h) (drop_at rs g)) ∙ v.rest
 
-  pass_next : (r : ℕ) → r ≡ after (record { left = get_or ls i 0; right = get_or rs i 0 }) all
-      → PassSoFar n ls rs A (i + 1) r
-  pass_next r e = record {
-    inside = add-one-le h;
-    rest = ap (pass (pairs (n - (i + 1)) (drop (i + 1) ls) (drop (i + 1) rs))) e ∙ pass_front;
-  }
+  pass_next : (k r : ℕ) → k ≡ i + 1 → r ≡ after (record { left = get_or ls i 0; right = get_or rs i 0 }) all
+      → PassSoFar ls rs A k r
+  pass_next k r q e = subst (λ (j : ℕ). PassSoFar ls rs A j r) (sym q)
+      (record { rest = ap (pass (beside (drop (i + 1) ls) (drop (i + 1) rs))) e ∙ pass_front })
 
-  pub pass_with : (r : ℕ) → within (get_or ls i 0) all ≡ true → r ≡ all ∪ get_or rs i 0 → PassSoFar n ls rs A (i + 1) r
-  pass_with r t e = pass_next r (e ∙ ap (λ (b : Bool). elim b [ true ↦ all ∪ get_or rs i 0 | false ↦ all ]) (sym t))
+  -- x and y are the sides at place i, by the test of the left one
+  module _ (k r x y : ℕ) (q : k ≡ i + 1) (ex : x ≡ get_or ls i 0) (ey : y ≡ get_or rs i 0) where
+    pass_by : (b : Bool) → within x all ≡ b → r ≡ elim b [ true ↦ all ∪ y | false ↦ all ] → PassSoFar ls rs A k r
+    pass_by b t e =
+        pass_next k r q (e ∙ ap (λ (z : ℕ). elim b [ true ↦ all ∪ z | false ↦ all ]) ey
+        ∙ ap (λ (c : Bool). elim c [ true ↦ all ∪ get_or rs i 0 | false ↦ all ])
+        (sym (ap (λ (z : ℕ). within z all) (sym ex) ∙ t)))
 
-  pub pass_past : (r : ℕ) → within (get_or ls i 0) all ≡ false → r ≡ all → PassSoFar n ls rs A (i + 1) r
-  pass_past r t e = pass_next r (e ∙ ap (λ (b : Bool). elim b [ true ↦ all ∪ get_or rs i 0 | false ↦ all ]) (sym t))
+    pub pass_with : within x all ≡ true → r ≡ all ∪ y → PassSoFar ls rs A k r
+    pass_with t e = pass_by true t e
 
-pub pass_end : {n : ℕ} {ls rs : List ℕ} {A i all : ℕ} → PassSoFar n ls rs A i all → n ≤ i → all ≡ pass (pairs n ls rs) A
-unfolding pass pairs
-pass_end {n} {ls} {rs} {A} {i} {all} v h =
-    let z : 0 ≡ n - i = omega arith in
-    ap (λ (k : ℕ). pass (pairs k (drop i ls) (drop i rs)) all) z ∙ v.rest
+    pub pass_past : within x all ≡ false → r ≡ all → PassSoFar ls rs A k r
+    pass_past t e = pass_by false t e
+
+beside_nil : (ls : List ℕ) → beside ls [] ≡ []
+unfolding pairs
+beside_nil [] = refl
+beside_nil (l ∷ ls) = refl
+
+-- no side is left where one of the lists has ended
+beside_ended : (ls rs : List ℕ) (i : ℕ) → min (length ls) (length rs) ≤ i → beside (drop i ls) (drop i rs) ≡ []
+unfolding pairs
+beside_ended ls rs i h =
+    ⊎_elim (λ l. ap (beside (drop i ls)) (drop_of_length-le rs (omega arith)) ∙ beside_nil (drop i ls))
+    (λ l. ap (λ (x : List ℕ). beside x (drop i rs)) (drop_of_length-le ls l)) (lt_or_le i (length ls))
+
+pub pass_end : {ls rs : List ℕ} {A i all : ℕ} → PassSoFar ls rs A i all → min (length ls) (length rs) ≤ i
+    → all ≡ pass (beside ls rs) A
+unfolding pass
+pass_end {ls} {rs} {A} {i} {all} v h = ap (λ (D : List Dependency). pass D all) (sym (beside_ended ls rs i h)) ∙ v.rest
 
 -- ---- the members of a set, ascending, with what f gives of each
 

@@ -1,16 +1,13 @@
 -- What the code finds of a scheme, put together from what its callees give.
--- In order: counts over an array's length, the computed list, the list of maximal objects.
+-- In order: the sides up to a count, the computed list, the list of maximal objects.
 -- Assumes nothing.
 use mathlib.Core.Path.{◌≡◌, refl, sym, ap, ap₂, ◌∙◌, subst}
 use mathlib.Core.Bool.{Bool, true, false}
-use mathlib.Core.Logic.{⊎_elim}
 use mathlib.Core.List.{List, [], ◌∷◌}
-use Prim.Native.Nat.{ℕ, zero, suc, ◌≤◌, ◌<◌, min}
-use native.Mathlib.Nat.{not-suc-le-zero, le_of_suc-le-suc}
+use Prim.Native.Nat.{ℕ, zero, suc, ◌≤◌}
 use native.Mathlib.Omega.{arith}
 use lib.ListN.{length, take, length-take}
 use Rattle.sets.specs.Sets.{OBJECTS}
-use Rattle.sets.proofs.Numbers.{lt_or_le}
 use Rattle.reduction.specs.Steps.{Family}
 use Rattle.reduction.specs.Kept.{maximal}
 use Rattle.reduction.specs.Packed.{padded}
@@ -21,37 +18,23 @@ use Rattle.scheme.specs.Dependencies.{Dependency}
 use Rattle.scheme.specs.Growing.{grown}
 use Rattle.scheme.specs.MaximalObjects.{all_grown, computed, counted, removing, adding, maximal_objects, both_kinds}
 use Rattle.scheme.specs.MaximalObjects.{some_cyclic}
-use Rattle.scheme.specs.OfScheme.{pairs, listed, sets_of, HasRoom, declared_of, removed_of, computed_of, maximal_of}
+use Rattle.scheme.specs.OfScheme.{pairs, beside, listed, sets_of, HasRoom, declared_of, removed_of, computed_of, maximal_of}
 use Rattle.scheme.specs.OfScheme.{MAXIMALS, counting_of, both_of, cyclic_of, maximal_list_of}
 use Rattle.scheme.proofs.Removals.{length_removing, length_adding}
 use Rattle.scheme.proofs.MaximalObjects.{length_computed}
 use Rattle.scheme.proofs.Packing.{listing_take, listed_listing}
 use Rattle.scheme.proofs.Loops.{length_given}
 
--- ---- counts over an array's length
+-- ---- the sides up to a count
 
--- a count past the length adds no dependency
-pairs_past : (m : ℕ) (ls rs : List ℕ) → length ls ≤ m → pairs (length ls) ls rs ≡ pairs m ls rs
+-- the sides up to a count, each left one with the right one beside it, are the dependencies of that count
+beside_taken : (n : ℕ) (ls rs : List ℕ) → beside (take n ls) (take n rs) ≡ pairs n ls rs
 unfolding pairs
-pairs_past zero [] rs h = refl
-pairs_past (suc m) [] rs h = refl
-pairs_past zero (l ∷ ls) rs h = absurd (not-suc-le-zero h)
-pairs_past (suc m) (l ∷ ls) [] h = refl
-pairs_past (suc m) (l ∷ ls) (r ∷ rs) h =
-    ap (λ (D : List Dependency). record { left = l; right = r } ∷ D) (pairs_past m ls rs (le_of_suc-le-suc h))
-
-pairs_at_most : (m n : ℕ) (ls rs : List ℕ) → length ls ≡ n → pairs (min m n) ls rs ≡ pairs m ls rs
-pairs_at_most m n ls rs e = ⊎_elim inside past (lt_or_le m n)
-  where
-    inside : m < n → pairs (min m n) ls rs ≡ pairs m ls rs
-    inside l =
-        let q : min m n ≡ m = omega arith in
-        ap (λ (k : ℕ). pairs k ls rs) q
-
-    past : n ≤ m → pairs (min m n) ls rs ≡ pairs m ls rs
-    past g =
-        let q : min m n ≡ length ls = omega arith in
-        ap (λ (k : ℕ). pairs k ls rs) q ∙ pairs_past m ls rs (omega arith)
+beside_taken zero ls rs = refl
+beside_taken (suc n) [] rs = refl
+beside_taken (suc n) (l ∷ ls) [] = refl
+beside_taken (suc n) (l ∷ ls) (r ∷ rs) =
+    ap (λ (D : List Dependency). record { left = l; right = r } ∷ D) (beside_taken n ls rs)
 
 -- ---- the computed list
 
@@ -84,12 +67,13 @@ counted_few true l h = omega arith
 counted_few false l h = h
 
 module _ (s : Scheme) where
-  pub computed_of_fact : {r : ObjectList} {n : ℕ} → length s.left ≡ 64 → n ≡ min s.dependencies 64
-      → r ≡ listed (computed (pairs n s.left s.right) s.sets s.objects) → r ≡ listed (computed_of s)
+  pub computed_of_fact : {p : ObjectList} {ls rs : List ℕ} → ls ≡ take s.dependencies s.left
+      → rs ≡ take s.dependencies s.right
+      → p ≡ listed (computed (beside ls rs) s.sets s.objects) → p ≡ listed (computed_of s)
   unfolding computed_of
-  computed_of_fact l e q =
+  computed_of_fact l r q =
       q ∙ ap (λ (D : List Dependency). listed (computed D s.sets s.objects))
-      (ap (λ (k : ℕ). pairs k s.left s.right) e ∙ pairs_at_most s.dependencies 64 s.left s.right l)
+      (ap₂ beside l r ∙ beside_taken s.dependencies s.left s.right)
 
   -- ---- the list of maximal objects
 

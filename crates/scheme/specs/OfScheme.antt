@@ -5,6 +5,7 @@ use Rattle.std.specs.Prelude.{◌≡◌, Bool, true, false, List, [], ◌∷◌,
 use Rattle.sets.specs.Sets.{◌∈◌, ◌∉◌, within, ◌∩◌, OBJECTS}
 use Rattle.reduction.specs.Packed.{padded}
 use Rattle.scheme.specs.declared.Scheme.{Scheme}
+use Rattle.scheme.specs.declared.Dependencies.{Dependencies}
 use Rattle.scheme.specs.declared.ObjectList.{ObjectList}
 use Rattle.scheme.specs.declared.MaximalList.{MaximalList}
 use Rattle.scheme.specs.Dependencies.{Dependency, closure}
@@ -44,10 +45,12 @@ cyclic_of s = some_cyclic s.sets (maximal_of s)
 
 -- ---- as the code has them
 
--- the first n places of two arrays of sides are there
-pub record Sides (n : ℕ) (left right : List ℕ) : Type 0 where
-  pub left_there : n ≤ length left
-  pub right_there : n ≤ length right
+-- the dependencies in two lists of sides: each left side with the right side beside it
+abbrev pub beside : List ℕ → List ℕ → List Dependency
+beside ls rs = pairs (length ls) ls rs
+
+abbrev pub stated : Dependencies → List Dependency
+stated d = beside d.left.now d.right.now
 
 -- each object that is declared and not held was asked with the attributes `before`, and did not join
 pub record NotJoined (D : List Dependency) (sets : List ℕ) (objects H before : ℕ) : Type 0 where

@@ -1,9 +1,8 @@
-// The scheme of a book, by value, and its maximal objects. Functions over slices do the work: the first n places of
-// left and right are the dependencies, place k of sets is the set of object k. The last two functions take a whole
-// scheme.
+// The scheme of a book, by value, and its maximal objects. Functions over slices do the work: the dependencies as two
+// lists of sides, the objects as the list of their sets. The last two functions take a whole scheme.
 #![tactic(auto)]
 
-ghost use Rattle.std.specs.Prelude.{◌≡◌, true, false, not, ◌≤◌, ◌<◌, min, length, take};
+ghost use Rattle.std.specs.Prelude.{◌≡◌, false, not, ◌≤◌, ◌<◌, IfSome, length, take};
 ghost use Rattle.sets.specs.Sets.{within, ◌∩◌, OBJECTS};
 ghost use Rattle.reduction.specs.Kept.{goes, keeps, maximal, acyclic};
 ghost use Rattle.reduction.specs.Packed.{packed};
@@ -11,11 +10,11 @@ ghost use Rattle.scheme.specs.Dependencies.{pass, closure};
 ghost use Rattle.scheme.specs.Growing.{family_of, attributes_of, round, grown};
 ghost use Rattle.scheme.specs.MaximalObjects.{all_grown, computed, is_one, removing, adding, both_kinds};
 ghost use Rattle.scheme.specs.MaximalObjects.{some_cyclic};
-ghost use Rattle.scheme.specs.OfScheme.{pairs, Sides, listed, sets_of, HasRoom, computed_of, counting_of};
+ghost use Rattle.scheme.specs.OfScheme.{stated, listed, sets_of, HasRoom, computed_of, counting_of};
 ghost use Rattle.scheme.specs.OfScheme.{maximal_list_of, MAXIMALS, NotJoined};
 
 use reduction::SetList;
-use sets::{ATTRIBUTES, AttributeSet, OBJECTS, ObjectSet};
+use sets::{ATTRIBUTES, AttributeSet, Mask, OBJECTS, ObjectSet};
 
 // What the records of kinds 5, 6 and 14 say of maximal objects: those declared and those to be removed, each array
 // beside its count, and whether only declared ones count. Places behind the counts are 0.
@@ -56,55 +55,49 @@ pub struct Scheme {
 pub const MAXIMALS: usize = OBJECTS as usize + 8;
 
 // The first n of a list, or the whole list where it has fewer: a list in an array, without the places behind it.
-pub fn first<'a>(list: &'a [u32], n: usize) -> &'a [u32]
+pub fn first<T>(list: &[T], n: usize) -> &[T]
     ensures { result.now ≡ take n list.now }
 {
     if n < list.len() { &list[..n] } else { list }
 }
 
-// The same of a list of sets of objects.
-pub fn first_object_sets<'a>(found: &'a [ObjectSet], n: usize) -> &'a [ObjectSet]
-    ensures { result.now ≡ take n found.now }
-{
-    if n < found.len() { &found[..n] } else { found }
+// The dependencies of a book: the left sides, and beside each its right side. A side without another is no dependency.
+#[derive(Clone, Copy)]
+pub struct Dependencies<'a> {
+    pub left: &'a [AttributeSet],
+    pub right: &'a [AttributeSet],
+}
+
+// The objects of a book: the set of object k at place k, and which of them are declared.
+#[derive(Clone, Copy)]
+pub struct Objects<'a> {
+    pub sets: &'a [AttributeSet],
+    pub declared: ObjectSet,
+    pub ghost all_there: { OBJECTS ≤ length sets.now },
 }
 
 // One pass: each dependency in turn whose left side is there adds its right side.
-fn pass<'a>(
-    left: &'a [AttributeSet],
-    right: &'a [AttributeSet],
-    n: usize,
-    attributes: AttributeSet,
-) -> AttributeSet
-    requires { Sides n left.now right.now }
-    ensures { result ≡ pass (pairs n left.now right.now) attributes }
+fn pass(dependencies: Dependencies<'_>, attributes: AttributeSet) -> AttributeSet
+    ensures { result ≡ pass (stated dependencies.entry) attributes }
 {
     let mut all = attributes;
-    let mut i: usize = 0;
-    while i < n {
-        if sets::within(left[i], all) {
-            all = sets::union(all, right[i]);
+    for (left, right) in dependencies.left.iter().zip(dependencies.right) {
+        if left.within(all) {
+            all = all.union(*right);
         }
-        i += 1;
     }
     all
 }
 
 // The attributes that are determined by some: passes until nothing is added.
-pub fn closure<'a>(
-    left: &'a [AttributeSet],
-    right: &'a [AttributeSet],
-    n: usize,
-    attributes: AttributeSet,
-) -> AttributeSet
-    requires { Sides n left.now right.now }
-    ensures { result ≡ closure (pairs n left.now right.now) attributes }
+pub fn closure(dependencies: Dependencies<'_>, attributes: AttributeSet) -> AttributeSet
+    ensures { result ≡ closure (stated dependencies.entry) attributes }
 {
     let mut all = attributes;
-    let mut next = pass(left, right, n, all);
+    let mut next = pass(dependencies, all);
     while next != all {
         all = next;
-        next = pass(left, right, n, all);
+        next = pass(dependencies, all);
     }
     all
 }
@@ -116,13 +109,11 @@ pub fn family_of(sets: &[AttributeSet], objects: ObjectSet) -> SetList
 {
     let mut out = [0u32; reduction::PLACES];
     let mut count: usize = 0;
-    let mut k: u32 = 0;
-    while k < OBJECTS {
-        if sets::has_object(objects, k) {
+    for k in 0..OBJECTS {
+        if objects.has(k) {
             out[count] = sets[k as usize];
             count += 1;
         }
-        k += 1;
     }
     SetList { sets: out, count }
 }
@@ -133,91 +124,71 @@ pub fn attributes_of(sets: &[AttributeSet], objects: ObjectSet) -> AttributeSet
     ensures { result ≡ attributes_of sets.now objects }
 {
     let mut all: AttributeSet = 0;
-    let mut k: u32 = 0;
-    while k < OBJECTS {
-        if sets::has_object(objects, k) {
-            all = sets::union(all, sets[k as usize]);
+    for k in 0..OBJECTS {
+        if objects.has(k) {
+            all = all.union(sets[k as usize]);
         }
-        k += 1;
     }
     all
 }
 
 // Whether an object with set s has attributes which are determined by those it shares with the attributes held. One that
 // was asked with the attributes `before`, and shares no more with those held now, did not join and does not.
-fn is_determined<'a>(
-    left: &'a [AttributeSet],
-    right: &'a [AttributeSet],
-    n: usize,
+fn is_determined(
+    dependencies: Dependencies<'_>,
     s: AttributeSet,
-    asked: bool,
-    before: AttributeSet,
+    asked: Option<AttributeSet>,
     attributes: AttributeSet,
 ) -> bool
-    requires { (Sides n left.now right.now)
-        × (asked ≡ true → within s (closure (pairs n left.now right.now) (s ∩ before)) ≡ false) }
-    ensures { result ≡ within s (closure (pairs n left.now right.now) (s ∩ attributes)) }
+    requires { IfSome asked (λ before. within s (closure (stated dependencies) (s ∩ before)) ≡ false) }
+    ensures { result ≡ within s (closure (stated dependencies.entry) (s ∩ attributes)) }
 {
-    let shared = sets::intersection(s, attributes);
-    if asked {
-        if sets::intersection(s, before) == shared {
+    let shared = s.intersection(attributes);
+    if let Some(before) = asked {
+        if s.intersection(before) == shared {
             return false;
         }
     }
-    sets::within(s, closure(left, right, n, shared))
+    s.within(closure(dependencies, shared))
 }
 
 // One round: the objects that are held or can be held. The attributes held are found once. Where the objects were asked
-// in the round before, `before` is the attributes held then.
-fn round<'a>(
-    left: &'a [AttributeSet],
-    right: &'a [AttributeSet],
-    n: usize,
-    sets: &'a [AttributeSet],
-    objects: ObjectSet,
+// in the round before, `asked` has the attributes held then.
+fn round(
+    dependencies: Dependencies<'_>,
+    objects: Objects<'_>,
     held: ObjectSet,
-    asked: bool,
-    before: AttributeSet,
+    asked: Option<AttributeSet>,
 ) -> ObjectSet
-    requires { (Sides n left.now right.now) × (OBJECTS ≤ length sets.now)
-        × (asked ≡ true → NotJoined (pairs n left.now right.now) sets.now objects held before) }
-    ensures { result ≡ round (pairs n left.now right.now) sets.now objects held }
+    requires { IfSome asked (NotJoined (stated dependencies) objects.sets.now objects.declared held) }
+    ensures { result ≡ round (stated dependencies.entry) objects.entry.sets.now objects.entry.declared held }
 {
-    let attributes = attributes_of(sets, held);
+    let attributes = attributes_of(objects.sets, held);
     let mut next: ObjectSet = 0;
-    let mut k: u32 = 0;
-    while k < OBJECTS {
-        if sets::has_object(held, k) {
-            next = sets::insert_object(next, k);
-        } else if sets::has_object(objects, k) {
-            if is_determined(left, right, n, sets[k as usize], asked, before, attributes) {
-                next = sets::insert_object(next, k);
+    for k in 0..OBJECTS {
+        if held.has(k) {
+            next = next.insert(k);
+        } else if objects.declared.has(k) {
+            if is_determined(dependencies, objects.sets[k as usize], asked, attributes) {
+                next = next.insert(k);
             }
         }
-        k += 1;
     }
     next
 }
 
 // The set grown from a start: rounds until no object joins.
-pub fn grow<'a>(
-    left: &'a [AttributeSet],
-    right: &'a [AttributeSet],
-    n: usize,
-    sets: &'a [AttributeSet],
-    objects: ObjectSet,
-    start: u32,
-) -> ObjectSet
-    requires { (Sides n left.now right.now) × (OBJECTS ≤ length sets.now) × (start < OBJECTS) }
-    ensures { result ≡ grown (pairs n left.now right.now) sets.now objects start }
+pub fn grow(dependencies: Dependencies<'_>, objects: Objects<'_>, start: u32) -> ObjectSet
+    requires { start < OBJECTS }
+    ensures { result ≡ grown (stated dependencies.entry) objects.entry.sets.now objects.entry.declared start }
 {
-    let mut held = sets::single_object(start);
-    let mut next = round(left, right, n, sets, objects, held, false, 0);
-    let mut before = attributes_of(sets, held);
+    let mut held = ObjectSet::single(start);
+    let mut next = round(dependencies, objects, held, None);
+    let mut before = attributes_of(objects.sets, held);
     while next != held {
         held = next;
-        next = round(left, right, n, sets, objects, held, true, before);
-        before = attributes_of(sets, held);
+        next = round(dependencies, objects, held, Some(before));
+        before = attributes_of(objects.sets, held);
     }
     held
 }
@@ -230,26 +201,17 @@ pub struct ObjectList {
 }
 
 // The sets grown from each object, starts ascending.
-fn grown_sets<'a>(
-    left: &'a [AttributeSet],
-    right: &'a [AttributeSet],
-    n: usize,
-    sets: &'a [AttributeSet],
-    objects: ObjectSet,
-) -> ObjectList
-    requires { (Sides n left.now right.now) × (OBJECTS ≤ length sets.now) }
+fn grown_sets(dependencies: Dependencies<'_>, objects: Objects<'_>) -> ObjectList
     ensures { result
-        ≡ listed (all_grown (pairs n left.now right.now) sets.now objects) }
+        ≡ listed (all_grown (stated dependencies.entry) objects.entry.sets.now objects.entry.declared) }
 {
     let mut out: [ObjectSet; MAXIMALS] = [0; MAXIMALS];
     let mut count: usize = 0;
-    let mut k: u32 = 0;
-    while k < OBJECTS {
-        if sets::has_object(objects, k) {
-            out[count] = grow(left, right, n, sets, objects, k);
+    for k in 0..OBJECTS {
+        if objects.declared.has(k) {
+            out[count] = grow(dependencies, objects, k);
             count += 1;
         }
-        k += 1;
     }
     ObjectList { sets: out, count }
 }
@@ -260,18 +222,15 @@ fn goes_for_another(list: &[ObjectSet], i: usize) -> bool
     ensures { result ≡ goes list.now i (length list.now) }
 {
     let s = list[i];
-    let mut j: usize = 0;
-    while j < list.len() {
-        let t = list[j];
-        if sets::objects_within(s, t) {
+    for (j, t) in list.iter().enumerate() {
+        if s.within(*t) {
             if j < i {
                 return true;
             }
-            if !sets::objects_within(t, s) {
+            if !t.within(s) {
                 return true;
             }
         }
-        j += 1;
     }
     false
 }
@@ -281,7 +240,7 @@ fn is_kept(list: &[ObjectSet], i: usize) -> bool
     requires { i < length list.now }
     ensures { result ≡ keeps list.now i }
 {
-    if sets::no_objects(list[i]) {
+    if list[i].is_empty() {
         return false;
     }
     !goes_for_another(list, i)
@@ -294,45 +253,29 @@ fn maximal_sets(grown: &[ObjectSet]) -> ObjectList
 {
     let mut out: [ObjectSet; MAXIMALS] = [0; MAXIMALS];
     let mut count: usize = 0;
-    let mut i: usize = 0;
-    while i < grown.len() {
+    for (i, s) in grown.iter().enumerate() {
         if is_kept(grown, i) {
-            out[count] = grown[i];
+            out[count] = *s;
             count += 1;
         }
-        i += 1;
     }
     ObjectList { sets: out, count }
 }
 
 // The grown sets without those properly inside another and without repeats.
-fn computed_sets<'a>(
-    left: &'a [AttributeSet],
-    right: &'a [AttributeSet],
-    n: usize,
-    sets: &'a [AttributeSet],
-    objects: ObjectSet,
-) -> ObjectList
-    requires { (Sides n left.now right.now) × (OBJECTS ≤ length sets.now) }
+fn computed_sets(dependencies: Dependencies<'_>, objects: Objects<'_>) -> ObjectList
     ensures { result
-        ≡ listed (computed (pairs n left.now right.now) sets.now objects) }
+        ≡ listed (computed (stated dependencies.entry) objects.entry.sets.now objects.entry.declared) }
 {
-    let all = grown_sets(left, right, n, sets, objects);
-    maximal_sets(first_object_sets(&all.sets, all.count))
+    let all = grown_sets(dependencies, objects);
+    maximal_sets(first(&all.sets, all.count))
 }
 
 // Whether s is one of the list.
 fn is_one(list: &[ObjectSet], s: ObjectSet) -> bool
     ensures { result ≡ is_one s list.now }
 {
-    let mut i: usize = 0;
-    while i < list.len() {
-        if list[i] == s {
-            return true;
-        }
-        i += 1;
-    }
-    false
+    list.contains(&s)
 }
 
 // How many of some computed sets count: none where only declared ones do.
@@ -359,34 +302,25 @@ fn is_cyclic(sets: &[AttributeSet], m: ObjectSet) -> bool
 }
 
 // Whether some one of the list has a cycle.
-fn some_cyclic<'a>(sets: &'a [AttributeSet], list: &'a [ObjectSet]) -> bool
+fn some_cyclic(sets: &[AttributeSet], list: &[ObjectSet]) -> bool
     requires { OBJECTS ≤ length sets.now }
     ensures { result ≡ some_cyclic sets.now list.now }
 {
-    let mut i: usize = 0;
-    while i < list.len() {
-        if is_cyclic(sets, list[i]) {
-            return true;
-        }
-        i += 1;
-    }
-    false
+    list.iter().any(|m| is_cyclic(sets, *m))
 }
 
 // The list without the sets that are named.
-fn without_removed<'a>(list: &'a [ObjectSet], removed: &'a [ObjectSet]) -> ObjectList
+fn without_removed(list: &[ObjectSet], removed: &[ObjectSet]) -> ObjectList
     requires { length list.now ≤ OBJECTS }
     ensures { result ≡ listed (removing list.now removed.now) }
 {
     let mut out: [ObjectSet; MAXIMALS] = [0; MAXIMALS];
     let mut count: usize = 0;
-    let mut i: usize = 0;
-    while i < list.len() {
-        if !is_one(removed, list[i]) {
-            out[count] = list[i];
+    for m in list {
+        if !is_one(removed, *m) {
+            out[count] = *m;
             count += 1;
         }
-        i += 1;
     }
     ObjectList { sets: out, count }
 }
@@ -398,30 +332,26 @@ fn with_declared(list: ObjectList, declared: &[ObjectSet]) -> ObjectList
 {
     let mut out = list.sets;
     let mut count = list.count;
-    let mut i: usize = 0;
-    while i < declared.len() {
-        if !is_one(&out[..count], declared[i]) {
-            out[count] = declared[i];
+    for m in declared {
+        if !is_one(&out[..count], *m) {
+            out[count] = *m;
             count += 1;
         }
-        i += 1;
     }
     ObjectList { sets: out, count }
-}
-
-// The smaller one: a count, or the length of its array where the count is over it.
-fn at_most(count: usize, length: usize) -> usize
-    ensures { result ≡ min count length }
-{
-    if count < length { count } else { length }
 }
 
 // The computed maximal objects of a scheme.
 pub fn computed(s: Scheme) -> ObjectList
     ensures { result ≡ listed (computed_of s) }
 {
-    let n = at_most(s.dependencies, 64);
-    computed_sets(&s.left, &s.right, n, &s.sets, s.objects)
+    let left = first(&s.left, s.dependencies);
+    let right = first(&s.right, s.dependencies);
+    let objects = Objects {
+        sets: &s.sets,
+        declared: s.objects,
+    };
+    computed_sets(Dependencies { left, right }, objects)
 }
 
 // The maximal objects of a scheme with the two faults: a set to be removed where only declared ones count, and a
@@ -439,15 +369,12 @@ pub fn maximal_objects(s: Scheme) -> MaximalList
     ensures { result ≡ maximal_list_of s }
 {
     let found = computed(s);
-    let list = first_object_sets(&found.sets, counting(s.maximal.only, found.count));
-    let removed = first_object_sets(&s.maximal.removed, s.maximal.removals);
+    let list = first(&found.sets, counting(s.maximal.only, found.count));
+    let removed = first(&s.maximal.removed, s.maximal.removals);
     let rest = without_removed(list, removed);
     let both = both_kinds(s.maximal.only, s.maximal.removals);
-    let all = with_declared(
-        rest,
-        first_object_sets(&s.maximal.declared, s.maximal.declarations),
-    );
-    let cyclic = some_cyclic(&s.sets, first_object_sets(&all.sets, all.count));
+    let all = with_declared(rest, first(&s.maximal.declared, s.maximal.declarations));
+    let cyclic = some_cyclic(&s.sets, first(&all.sets, all.count));
     let sets = all.sets;
     MaximalList {
         sets,

@@ -2,6 +2,8 @@
 // lent to it. What is written is held to the file stdout, which examples/sheets.py writes from the request's words.
 #![tactic(auto)]
 
+use refusals::Refusal;
+
 // What lent bytes hold before a call.
 const BEFORE: u8 = b'#';
 
@@ -9,8 +11,8 @@ const BEFORE: u8 = b'#';
 const MOST: usize = 77;
 
 // A sheet with a mark behind the last lent byte, or whether the bytes are as they were.
-fn show(rt: &impl Print, refusal: u8, out: &[u8]) {
-    if refusal == 0 {
+fn show(rt: &impl Print, given: Result<(), Refusal>, out: &[u8]) {
+    if given.is_ok() {
         console::word(rt, out);
         console::word(rt, b"|\n");
         return;
@@ -43,10 +45,10 @@ fn sheet(
     console::word(rt, b" bytes ");
     console::number(rt, out.len());
     console::word(rt, b": ");
-    let refusal = sheets::sheet(serial, rows, kinds, cells, called, out);
-    console::number(rt, refusal);
+    let given = sheets::sheet(serial, rows, kinds, cells, called, out);
+    console::number(rt, refusals::number(given.err()));
     console::word(rt, b"\n");
-    show(rt, refusal, out);
+    show(rt, given, out);
 }
 
 // Names from 1000 on.

@@ -4,38 +4,37 @@
 -- Assumes nothing.
 use mathlib.Core.Path.{◌≡◌, refl, sym, ap, ap₂, subst, ◌∙◌}
 use mathlib.Core.List.{List, [], ◌∷◌, ◌++◌, append-nil}
-use Prim.Native.Nat.{ℕ, zero, suc, ◌+◌, ◌-◌, ◌*◌, ◌^◌, ◌≤◌, ◌<◌}
+use Prim.Native.Nat.{ℕ, suc, ◌+◌, ◌-◌, ◌*◌, ◌^◌, ◌≤◌, ◌<◌}
+use native.Mathlib.Nat.{add-sub_cancel_left, sub-zero}
 use native.Mathlib.Omega.{arith}
-use lib.ListN.{length, get_or, take, drop, length-append}
+use lib.ListN.{length, get_or, take, drop, replicate, length-append, length-drop}
+use lib.Seq.{length-take-le}
 use Rattle.sorted.specs.Rows.{Row, rows_in}
 use Rattle.printout.specs.Decimal.{decimal, cell_text}
 use Rattle.printout.specs.Lines.{cell_texts}
 use Rattle.printout.specs.Printing.{written}
 use Rattle.printout.proofs.Decimal.{cell_short}
-use Rattle.printout.proofs.Writing.{Writing, writing_start, writing_room, writing_next, writing_end}
+use Rattle.printout.proofs.Writing.{Writing, written_part, writing_start, writing_room, writing_next, writing_end}
 use Rattle.printout.proofs.Texts.{first_room, second_room, both_written}
-use Rattle.printout.proofs.Rows.{rows_left}
+use Rattle.printout.proofs.Rows.{row_part, rows_front, rows_none}
 use Rattle.sheets.specs.Sheets.{blanks, field_of, fields_of, rest_of, line_of, head_line, row_line, foot_line}
 use Rattle.sheets.specs.Sheets.{row_lines, blank_lines, joined}
-use Rattle.sheets.proofs.Fields.{blanks_front, blanks_none, blanks_length, field_length, number_short}
+use Rattle.sheets.proofs.Fields.{blanks_length, field_length, number_short}
 use Rattle.sheets.proofs.Fields.{fields_left}
 use Rattle.sheets.proofs.Fields.{fields_front, fields_none, line_none, line_one, line_two}
 
 -- ---- blanks
 
-module _ (from n : ℕ) (e : List ℕ) (left : ℕ) {at : ℕ} {bytes : List ℕ}
-    (v : Writing from (blanks n) e at (blanks left) bytes) where
-  pub blank_room : 0 < left → at < length bytes
-  blank_room h = omega (arith, writing_room from (blanks n) e v, blanks_length left)
-
-  pub blank_written : 0 < left → {to : ℕ} {out : List ℕ} → to ≡ at + 1 → out ≡ written at (32 ∷ []) bytes
-      → Writing from (blanks n) e to (blanks (left - 1)) out
-  blank_written h p w = writing_next from (blanks n) e v (32 ∷ []) (blanks (left - 1)) (blanks_front left h) p w
-
-  pub blanks_written : left ≤ 0 → (at ≡ from + length (blanks n)) × (bytes ≡ written from (blanks n) e)
-  blanks_written h =
-      writing_end from (blanks n) e
-      (subst (λ (l : List ℕ). Writing from (blanks n) e at l bytes) (blanks_none left h) v)
+-- a part lent, filled with blanks
+pub blanks_written : (at n : ℕ) (e : List ℕ) {part : List ℕ} → at + n ≤ length e
+    → part ≡ replicate (length (take (at + n - at) (drop at e))) 32
+    → take at e ++ (part ++ drop (at + n - at) (drop at e)) ≡ written at (blanks n) e
+blanks_written at n e h p =
+    written_part at (at + n) (blanks n) e (omega (arith, blanks_length n)) (p ∙ ap blanks filled)
+  where
+    filled : length (take (at + n - at) (drop at e)) ≡ n
+    filled =
+        length-take-le (at + n - at) (drop at e) (omega (arith, h, length-drop at e)) ∙ add-sub_cancel_left at n
 
 -- ---- a field: n is the length of its text
 
@@ -69,24 +68,29 @@ cell_field kind cell h = field_length (cell_text kind cell) (omega (arith, cell_
 
 module _ (kinds : List ℕ) (row : Row) (from : ℕ) (e : List ℕ) (i : ℕ) {at : ℕ} {bytes : List ℕ}
     (v : Writing from (fields_left kinds row 0) e at (fields_left kinds row i) bytes) where
-  abbrev cell_field_fact : List ℕ
-  cell_field_fact = field_of (cell_text (get_or kinds i 0) (get_or row i 0))
+  -- the cell and its kind as the code has them
+  module _ (h : i < length kinds) (wide : length kinds ≤ length row) {k a : ℕ} (p : k ≡ get_or kinds i 0)
+      (q : a ≡ get_or row i 0) where
+    fields_more : fields_left kinds row i ≡ field_of (cell_text k a) ++ fields_left kinds row (i + 1)
+    fields_more =
+        fields_front kinds row i h wide
+        ∙ ap₂ (λ (x y : ℕ). field_of (cell_text x y) ++ fields_left kinds row (i + 1)) (sym p) (sym q)
 
-  module _ (h : i < length kinds) (wide : length kinds ≤ length row) where
-    pub field_room : at + length cell_field_fact ≤ length bytes
+    pub field_room : at + length (field_of (cell_text k a)) ≤ length bytes
     field_room =
         omega (
           arith,
           writing_room from (fields_left kinds row 0) e v,
-          ap length (fields_front kinds row i h wide),
-          length-append cell_field_fact (fields_left kinds row (i + 1)),
+          ap length fields_more,
+          length-append (field_of (cell_text k a)) (fields_left kinds row (i + 1)),
         )
 
-    pub fields_next : {to : ℕ} {out : List ℕ} → to ≡ at + length cell_field_fact → out ≡ written at cell_field_fact bytes
-        → Writing from (fields_left kinds row 0) e to (fields_left kinds row (i + 1)) out
-    fields_next p w =
-        writing_next from (fields_left kinds row 0) e v cell_field_fact (fields_left kinds row (i + 1))
-        (fields_front kinds row i h wide) p w
+    pub fields_next : {next to : ℕ} {out : List ℕ} → next ≡ i + 1 → to ≡ at + length (field_of (cell_text k a))
+        → out ≡ written at (field_of (cell_text k a)) bytes
+        → Writing from (fields_left kinds row 0) e to (fields_left kinds row next) out
+    fields_next n r w =
+        writing_next from (fields_left kinds row 0) e v (field_of (cell_text k a)) (fields_left kinds row _)
+        (fields_more ∙ ap (λ (m : ℕ). field_of (cell_text k a) ++ fields_left kinds row m) (sym n)) r w
 
   pub fields_end : length kinds ≤ i
       → (at ≡ from + length (fields_left kinds row 0)) × (bytes ≡ written from (fields_left kinds row 0) e)
@@ -222,87 +226,90 @@ module _ (kinds : List ℕ) (row : Row) (at : ℕ) (e : List ℕ) (room : at + l
 
 -- ---- lines of rows
 
--- the lines of the rows left
+-- the lines of the rows from row i on
 abbrev pub lines_left : List ℕ → List ℕ → ℕ → ℕ → List ℕ
-lines_left kinds cells from left = joined (row_lines kinds (rows_in (length kinds) left (drop from cells)))
+lines_left kinds cells rows i = joined (row_lines kinds (drop i (rows_in (length kinds) rows cells)))
 
-module _ (kinds cells : List ℕ) (from left : ℕ) where
-  -- the part of the cells that holds the next row
-  abbrev next_row : Row
-  next_row = take (from + length kinds - from) (drop from cells)
+module _ (kinds cells : List ℕ) (rows i : ℕ) where
+  -- the line of row i
+  abbrev line_here : List ℕ
+  line_here = row_line kinds (row_part (length kinds) cells i)
 
-  module _ (h : 0 < left) where
-    lines_front : lines_left kinds cells from left
-        ≡ row_line kinds next_row ++ lines_left kinds cells (from + length kinds) (left - 1)
+  module _ (h : i < rows) where
+    lines_front : lines_left kinds cells rows i ≡ line_here ++ lines_left kinds cells rows (i + 1)
     unfolding row_lines joined
-    lines_front = rw (rows_left (length kinds) from cells left h)
+    lines_front = rw (rows_front (length kinds) cells i rows h)
 
     module _ (start : ℕ) (text e : List ℕ) {at : ℕ} {bytes : List ℕ}
-        (v : Writing start text e at (lines_left kinds cells from left) bytes) where
-      pub row_room : at + length (row_line kinds next_row) ≤ length bytes
+        (v : Writing start text e at (lines_left kinds cells rows i) bytes) where
+      pub row_room : at + length line_here ≤ length bytes
       row_room =
           omega (
             arith,
             writing_room start text e v,
             ap length lines_front,
-            length-append (row_line kinds next_row) (lines_left kinds cells (from + length kinds) (left - 1)),
+            length-append line_here (lines_left kinds cells rows (i + 1)),
           )
 
-      pub row_written : {to : ℕ} {out : List ℕ} → to ≡ at + length (row_line kinds next_row)
-          → out ≡ written at (row_line kinds next_row) bytes
-          → Writing start text e to (lines_left kinds cells (from + length kinds) (left - 1)) out
+      pub row_written : {to : ℕ} {out : List ℕ} → to ≡ at + length line_here → out ≡ written at line_here bytes
+          → Writing start text e to (lines_left kinds cells rows (i + 1)) out
       row_written p w =
-          writing_next start text e v (row_line kinds next_row) (lines_left kinds cells (from + length kinds) (left - 1))
-          lines_front p w
+          writing_next start text e v line_here (lines_left kinds cells rows (i + 1)) lines_front p w
 
-  no_lines : left ≤ 0 → lines_left kinds cells from left ≡ []
-  unfolding row_lines rows_in joined
-  no_lines h = ap (lines_left kinds cells from) none
-    where
-      none : left ≡ 0
-      none = omega arith
+  module _ (h : rows ≤ i) where
+    no_lines : lines_left kinds cells rows i ≡ []
+    unfolding row_lines joined
+    no_lines = ap (λ (l : List Row). joined (row_lines kinds l)) (rows_none (length kinds) cells i rows h)
 
-  pub rows_written : (start : ℕ) (text e : List ℕ) {at : ℕ} {bytes : List ℕ}
-      → Writing start text e at (lines_left kinds cells from left) bytes → left ≤ 0
-      → (at ≡ start + length text) × (bytes ≡ written start text e)
-  rows_written start text e {at} {bytes} v h =
-      writing_end start text e (subst (λ (l : List ℕ). Writing start text e at l bytes) (no_lines h) v)
+    pub rows_written : (start : ℕ) (text e : List ℕ) {at : ℕ} {bytes : List ℕ}
+        → Writing start text e at (lines_left kinds cells rows i) bytes
+        → (at ≡ start + length text) × (bytes ≡ written start text e)
+    rows_written start text e {at} {bytes} v =
+        writing_end start text e (subst (λ (l : List ℕ). Writing start text e at l bytes) no_lines v)
 
 -- ---- lines of blanks
 
 abbrev pub blank_text : ℕ → List ℕ
 blank_text n = joined (blank_lines n)
 
-blank_front : (n : ℕ) → 0 < n → blank_text n ≡ rest_of 0 ++ blank_text (n - 1)
+-- the first of the lines behind i of them
+blank_front : (n i : ℕ) → i < n → blank_text (n - i) ≡ rest_of 0 ++ blank_text (n - (i + 1))
 unfolding joined blank_lines
-blank_front zero h = absurd (omega (arith, h))
-blank_front (suc n) h = ap₂ (λ (l : List ℕ) (m : ℕ). l ++ blank_text m) line_none fewer
+blank_front n i h = ap blank_text more ∙ ap (λ (l : List ℕ). l ++ blank_text (n - (i + 1))) line_none
   where
-    fewer : n ≡ suc n - 1
-    fewer = omega arith
+    more : n - i ≡ suc (n - (i + 1))
+    more = omega (arith, h)
 
-no_blank_lines : (n : ℕ) → n ≤ 0 → blank_text n ≡ []
+no_blank_lines : (n i : ℕ) → n ≤ i → blank_text (n - i) ≡ []
 unfolding joined blank_lines
-no_blank_lines zero h = refl
-no_blank_lines (suc n) h = absurd (omega (arith, h))
+no_blank_lines n i h = ap blank_text none
+  where
+    none : n - i ≡ 0
+    none = omega (arith, h)
 
-module _ (from n : ℕ) (e : List ℕ) (left : ℕ) {at : ℕ} {bytes : List ℕ}
-    (v : Writing from (blank_text n) e at (blank_text left) bytes) where
-  pub blank_line_room : 0 < left → at + length (rest_of 0) ≤ length bytes
+pub blank_start : (from n : ℕ) (e : List ℕ) → from + length (blank_text n) ≤ length e
+    → Writing from (blank_text n) e from (blank_text (n - 0)) e
+blank_start from n e h =
+    subst (λ (m : ℕ). Writing from (blank_text n) e from (blank_text m) e) (sym (sub-zero n))
+    (writing_start from (blank_text n) e h)
+
+module _ (from n : ℕ) (e : List ℕ) (i : ℕ) {at : ℕ} {bytes : List ℕ}
+    (v : Writing from (blank_text n) e at (blank_text (n - i)) bytes) where
+  pub blank_line_room : i < n → at + length (rest_of 0) ≤ length bytes
   blank_line_room h =
       omega (
         arith,
         writing_room from (blank_text n) e v,
-        ap length (blank_front left h),
-        length-append (rest_of 0) (blank_text (left - 1)),
+        ap length (blank_front n i h),
+        length-append (rest_of 0) (blank_text (n - (i + 1))),
       )
 
-  pub blank_line_written : 0 < left → {to : ℕ} {out : List ℕ} → to ≡ at + length (rest_of 0)
-      → out ≡ written at (rest_of 0) bytes → Writing from (blank_text n) e to (blank_text (left - 1)) out
+  pub blank_line_written : i < n → {to : ℕ} {out : List ℕ} → to ≡ at + length (rest_of 0)
+      → out ≡ written at (rest_of 0) bytes → Writing from (blank_text n) e to (blank_text (n - (i + 1))) out
   blank_line_written h p w =
-      writing_next from (blank_text n) e v (rest_of 0) (blank_text (left - 1)) (blank_front left h) p w
+      writing_next from (blank_text n) e v (rest_of 0) (blank_text (n - (i + 1))) (blank_front n i h) p w
 
-  pub blank_lines_written : left ≤ 0 → (at ≡ from + length (blank_text n)) × (bytes ≡ written from (blank_text n) e)
+  pub blank_lines_written : n ≤ i → (at ≡ from + length (blank_text n)) × (bytes ≡ written from (blank_text n) e)
   blank_lines_written h =
       writing_end from (blank_text n) e
-      (subst (λ (l : List ℕ). Writing from (blank_text n) e at l bytes) (no_blank_lines left h) v)
+      (subst (λ (l : List ℕ). Writing from (blank_text n) e at l bytes) (no_blank_lines n i h) v)

@@ -5,7 +5,7 @@ use mathlib.Core.Path.{◌≡◌, refl, sym, ap, ap₂, subst, ◌∙◌}
 use mathlib.Core.Bool.{Bool, true, false}
 use mathlib.Core.Logic.{◌⊎◌, inl, inr, ⊎_elim}
 use mathlib.Core.List.{List, [], ◌∷◌, ◌++◌}
-use Prim.Native.Nat.{ℕ, zero, suc, ◌+◌, ◌-◌, ◌*◌, ◌/◌, ◌%◌, ◌≤◌, ◌<◌, min}
+use Prim.Native.Nat.{ℕ, zero, suc, ◌+◌, ◌-◌, ◌*◌, ◌/◌, ◌%◌, ◌≤◌, ◌<◌, min, max}
 use native.Mathlib.Nat.{sub-zero, zero-sub, suc-sub-suc, suc-min-suc, zero-min, min-zero, zero-mul, suc-mul, add_comm}
 use native.Mathlib.Omega.{arith}
 use borrow.Author.Tests as Tests
@@ -69,16 +69,11 @@ count_is : (rows : ℕ) → ((rows ≡ 0) × (sheet_count rows ≡ 1)) ⊎ ((0 <
 count_is rows = ⊎_elim (λ (h : 0 < rows). inr (h, count_some rows (λ e. omega arith)))
     (λ (h : rows ≤ 0). inl (omega arith, count_none rows (omega arith))) (lt_or_le 0 rows)
 
-pub sheets_none : (rows : ℕ) → rows ≡ 0 → 1 ≡ sheet_count rows
-sheets_none rows e = sym (count_none rows e)
-
-pub sheets_some : (rows : ℕ) → (rows ≡ 0 → ⊥) → (rows - 1) / 38 + 1 ≡ sheet_count rows
-sheets_some rows f = omega (
-  arith,
-  count_some rows f,
-  ⊎_elim (λ (h : 0 < rows). h) (λ (h : rows ≤ 0). absurd (f (omega
-      arith))) (lt_or_le 0 rows),
-)
+-- as the code counts
+pub sheets_counted_so : (rows : ℕ) {full n : ℕ} → full ≡ rows / 38 + min 1 (rows % 38) → n ≡ max full 1
+    → n ≡ sheet_count rows
+sheets_counted_so rows e f = ⊎_elim (λ (a : (rows ≡ 0) × (sheet_count rows ≡ 1)). omega (arith, a, e, f))
+    (λ (a : (0 < rows) × (sheet_count rows ≡ (rows + 37) / 38)). omega (arith, a, e, f)) (count_is rows)
 
 module _ (rows number : ℕ) (some : 1 ≤ number) (last : number ≤ sheet_count rows) where
   -- a sheet begins before the last row, or right behind it

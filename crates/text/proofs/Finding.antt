@@ -2,7 +2,7 @@
 -- In order: behind the spaces; each way to begin.
 -- Assumes nothing.
 use mathlib.Core.Path.{◌≡◌, refl, sym, ap, ◌∙◌}
-use mathlib.Core.Bool.{Bool, true, false}
+use mathlib.Core.Bool.{Bool, true, false, ◌&&◌}
 use mathlib.Core.List.{List, ◌∷◌}
 use mathlib.Core.Option.{Option, some}
 use Prim.Native.Nat.{ℕ, ◌+◌, ◌≤◌, ◌<◌}
@@ -10,13 +10,14 @@ use native.Mathlib.Omega.{arith}
 use native.Mathlib.Decide.{dec_lt}
 use borrow.Author.Tests.{eq-eqb, ne_eqb, leb-true, le-leb, lt-leb}
 use lib.Dec.{leb}
+use Rattle.std.proofs.Common.{Some, None}
 use Rattle.sets.proofs.Tests.{yes_and}
 use lib.ListN.{length, get_or, drop, drop_of_length-le}
 use lib.Seq.{drop-drop}
 use Rattle.grammar.specs.Pieces.{between, is_capital, is_small, is_digit, is_space, blank, letter, variable_bytes, is_variable}
 use Rattle.grammar.specs.Pieces.{Piece}
 use Rattle.grammar.specs.Parser.{run, item_from, constant_from, fixed, first_of, candidate, checked, next_front, next_at}
-use Rattle.text.specs.Tokens.{variable_number, shown, token_at, item_token, number_token, fixed_token}
+use Rattle.text.specs.Tokens.{code_letter, shown, token_at, item_token, number_token, fixed_token}
 use Rattle.text.specs.declared.Token.{Token}
 use Rattle.text.specs.declared.Token.TheVariants.{AtEnd}
 use Rattle.text.proofs.Scanning.{drop_inside}
@@ -87,11 +88,11 @@ module _ (s : List ℕ) (at start : ℕ) (e : start ≡ at + run (between 32 32)
     token_case x f = token_begun ∙ ap (λ (y : Option Piece). shown (checked start (b ∷ rest) y)) f
 
     module _ (t : Bool) (et : t ≡ between 65 90 b) where
-      pub token_capital : (r : Token) → t ≡ true → r ≡ item_token 0 (drop start s) start → r ≡ token_at s at
-      unfolding candidate is_capital is_variable variable_bytes variable_number
+      pub token_capital : (r : Token) → t ≡ true → r ≡ item_token None (drop start s) start → r ≡ token_at s at
+      unfolding candidate is_capital is_variable variable_bytes code_letter
       token_capital r y f =
-          f ∙ ap (λ (l : List ℕ). item_token 0 l start) here
-          ∙ ap (item_token 0 (b ∷ rest)) zero_more
+          f ∙ ap (λ (l : List ℕ). item_token None l start) here
+          ∙ ap (item_token None (b ∷ rest)) zero_more
           ∙ sym (token_case (some (item_from blank (b ∷ rest))) (rw (sym et ∙ y)) ∙ item_token_fact blank (b ∷ rest) refl start)
         where
           zero_more : start ≡ start + 0
@@ -99,8 +100,8 @@ module _ (s : List ℕ) (at start : ℕ) (e : start ≡ at + run (between 32 32)
 
       module _ (n : t ≡ false) (u : Bool) (eu : u ≡ between 97 122 b) where
         pub token_dotted : (r : Token) (c : ℕ) → u ≡ true → c ≡ get_or s (start + 1) 0 → c ≡ 46
-            → r ≡ item_token b (drop (start + 2) s) (start + 2) → r ≡ token_at s at
-        unfolding variable_bytes variable_number is_variable is_small
+            → r ≡ item_token (Some b) (drop (start + 2) s) (start + 2) → r ≡ token_at s at
+        unfolding variable_bytes code_letter is_variable is_small
         token_dotted r c y ec k f =
             f ∙ sym (token_case (some (item_from (letter b) (drop (start + 2) s)))
             (candidate_dotted b rest (sym et ∙ n) (drop (start + 2) s) (sym eu ∙ y) split)
@@ -149,6 +150,57 @@ module _ (s : List ℕ) (at start : ℕ) (e : start ≡ at + run (between 32 32)
               f ∙ ap (λ (l : List ℕ). fixed_token l start) here
               ∙ sym (token_case (first_of fixed (b ∷ rest))
               (candidate_fixed b rest (sym et ∙ n) (sym eu ∙ m) (sym ev ∙ w) k))
+
+    -- the byte that the code looks at, by its place among the others
+    in_range : (first last : ℕ) → first ≤ b → b ≤ last → between first last b ≡ true
+    unfolding between
+    in_range first last p q = rw (le-leb first b p, le-leb b last q)
+
+    out_of_range : (first last : ℕ) → (first ≤ b → b ≤ last → ⊥) → between first last b ≡ false
+    unfolding between
+    out_of_range first last n = go (leb first b) (leb b last) refl refl
+      where
+        go : (t u : Bool) → leb first b ≡ t → leb b last ≡ u → (t && u) ≡ false
+        go true true e f = absurd (n (leb-true first b e) (leb-true b last f))
+        go true false e f = refl
+        go false u e f = refl
+
+    within : (first last : ℕ) → between first last b ≡ true → (first ≤ b) × (b ≤ last)
+    unfolding between
+    within first last e =
+        let p = yes_and (leb first b) (leb b last) e in (leb-true first b p.0, leb-true b last p.1)
+
+    pub at_capital : (r : Token) → 65 ≤ b → b ≤ 90 → r ≡ item_token None (drop start s) start → r ≡ token_at s at
+    at_capital r p q f = token_capital (between 65 90 b) refl r (in_range 65 90 p q) f
+
+    pub at_dotted : (r : Token) (c : ℕ) → 97 ≤ b → b ≤ 122 → c ≡ get_or s (start + 1) 0 → c ≡ 46
+        → r ≡ item_token (Some b) (drop (start + 2) s) (start + 2) → r ≡ token_at s at
+    at_dotted r c p q ec k f =
+        token_dotted (between 65 90 b) refl (out_of_range 65 90 (λ x y. absurd (omega arith))) (between 97 122 b) refl r c
+        (in_range 97 122 p q) ec k f
+
+    pub at_digit : (r : Token) → 48 ≤ b → b ≤ 57 → r ≡ number_token false (drop start s) start → r ≡ token_at s at
+    at_digit r p q f =
+        token_digit (between 65 90 b) refl (out_of_range 65 90 (λ x y. absurd (omega arith))) (between 97 122 b) refl
+        (out_of_range 97 122 (λ x y. absurd (omega arith))) (between 48 57 b) refl r (in_range 48 57 p q) f
+
+    pub at_minus : (r : Token) → b ≡ 45 → r ≡ number_token true (drop (start + 1) s) (start + 1) → r ≡ token_at s at
+    at_minus r k f =
+        token_minus (between 65 90 b) refl (out_of_range 65 90 (λ x y. absurd (omega arith))) (between 97 122 b) refl
+        (out_of_range 97 122 (λ x y. absurd (omega arith))) (between 48 57 b) refl r
+        (out_of_range 48 57 (λ x y. absurd (omega arith))) k f
+
+    pub at_other : (r : Token) → (65 ≤ b → b ≤ 90 → ⊥) → (97 ≤ b → b ≤ 122 → get_or s (start + 1) 0 ≡ 46 → ⊥)
+        → (48 ≤ b → b ≤ 57 → ⊥) → (b ≡ 45 → ⊥) → r ≡ fixed_token (drop start s) start → r ≡ token_at s at
+    at_other r n k m w f = go (between 97 122 b) refl
+      where
+        go : (u : Bool) → between 97 122 b ≡ u → r ≡ token_at s at
+        go true e =
+            token_small (between 65 90 b) refl (out_of_range 65 90 n) (between 97 122 b) refl r _ e refl
+            (k (within 97 122 e).0 (within 97 122 e).1) f
+        go false e =
+            token_other (between 65 90 b) refl (out_of_range 65 90 n) (between 97 122 b) refl e (between 48 57 b) refl r
+            (out_of_range 48 57 m) w f
 
 -- a dot stands inside the text
 pub dot_inside : (s : List ℕ) (start c : ℕ) → c ≡ get_or s (start + 1) 0 → c ≡ 46 → start + 2 ≤ length s

@@ -1,6 +1,6 @@
 -- The laws of `text`. Assumes nothing.
-pub mod Scanning
 pub mod Tokens
+pub mod Scanning
 pub mod Marks
 pub mod Finding
 pub mod Writing

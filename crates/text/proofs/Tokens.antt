@@ -16,24 +16,25 @@ use Rattle.grammar.specs.Pieces.{is_capital, is_digit, is_letter_or_digit, every
 use Rattle.grammar.specs.Pieces.{Variable, blank, letter, number, Piece, item, constant, bytes_of}
 use Rattle.grammar.specs.Pieces.{variable_bytes, constant_bytes, is_name, are_digits, is_variable, is_constant, is_piece, apart}
 use Rattle.grammar.specs.Parser.{run, begins, item_from, constant_from, stands, found, wrong, checked}
-use Rattle.text.specs.Tokens.{variable_number, name_number, magnitude, constant_token, token_of, shown, word_token}
+use Rattle.text.specs.Tokens.{code_letter, name_number, magnitude, constant_token, token_of, shown, word_token}
 use Rattle.text.specs.Tokens.{item_token, number_token}
+use Rattle.text.specs.declared.Word.{Word as CodeWord}
 use Rattle.text.specs.declared.Token.TheVariants.{NoPiece, WordAt, ItemAt, NumberAt}
 use Rattle.grammar.proofs.Bytes.{run_yes, run_no, capital_counts, digit_counts, every_last, begins_append}
 
 -- ---- words
 
-module _ (s : List ℕ) (at n : ℕ) (text : List ℕ) (t : Bool) (e : t ≡ begins text (drop at s)) where
-  pub word_not : not t ≡ true → NoPiece ≡ word_token n text (drop at s) at
+module _ (s : List ℕ) (at : ℕ) (w : CodeWord) (text : List ℕ) (t : Bool) (e : t ≡ begins text (drop at s)) where
+  pub word_not : not t ≡ true → NoPiece ≡ word_token w text (drop at s) at
   unfolding word_token
   word_not h = rw (← e, not-true t h)
 
   module _ (h : not t ≡ false) (u : Bool) (f : u ≡ is_letter_or_digit (get_or s (at + length text) 0)) where
-    pub word_goes : u ≡ true → NoPiece ≡ word_token n text (drop at s) at
+    pub word_goes : u ≡ true → NoPiece ≡ word_token w text (drop at s) at
     unfolding word_token
     word_goes k = rw (← e, not-false t h, get_or-drop, ← f, k)
 
-    pub word_is : u ≡ false → WordAt n (at + length text) ≡ word_token n text (drop at s) at
+    pub word_is : u ≡ false → WordAt w (at + length text) ≡ word_token w text (drop at s) at
     unfolding word_token
     word_is k = rw (← e, not-false t h, get_or-drop, ← f, k)
 
@@ -150,22 +151,22 @@ module _ (v : Variable) (l : List ℕ) (hv : is_variable v ≡ true) where
 
   item_shown : (a : ℕ) (t : Bool)
       → shown (cond t (found the_item (a + length (bytes_of the_item))) wrong)
-      ≡ cond t (ItemAt (variable_number v) (name_number (take (run is_capital l) l))
+      ≡ cond t (ItemAt (code_letter v) (name_number (take (run is_capital l) l))
       (a + length (variable_bytes v) + run is_capital l)) NoPiece
   unfolding shown token_of bytes_of
   item_shown a true =
-      ap (ItemAt (variable_number v) (name_number (take (run is_capital l) l))) (item_place a)
+      ap (ItemAt (code_letter v) (name_number (take (run is_capital l) l))) (item_place a)
   item_shown a false = refl
 
   -- the candidate that begins with a letter, as the code finds it
   pub item_token_fact : (a : ℕ)
       → shown (checked a (variable_bytes v ++ l) (some (item_from v l)))
-      ≡ item_token (variable_number v) l (a + length (variable_bytes v))
+      ≡ item_token (code_letter v) l (a + length (variable_bytes v))
   unfolding checked item_from item_token
   item_token_fact a =
       item_shown a (stands the_item (variable_bytes v ++ l))
       ∙ ap
-      (λ (t : Bool). cond t (ItemAt (variable_number v) (name_number (take (run is_capital l) l))
+      (λ (t : Bool). cond t (ItemAt (code_letter v) (name_number (take (run is_capital l) l))
       (a + length (variable_bytes v) + run is_capital l)) NoPiece)
       item_stands
 

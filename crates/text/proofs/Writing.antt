@@ -1,25 +1,27 @@
 -- Words written in their place, and the steps of a parser on what its callees gave.
 -- In order: words written; the word behind a position; a word more in a program.
 -- Assumes nothing.
-use mathlib.Core.Path.{◌≡◌, refl, sym, ap, ap₂, ◌∙◌}
-use mathlib.Core.Bool.{Bool, true, false, not, cond}
+use mathlib.Core.Path.{◌≡◌, refl, sym, ap, ap₂, ◌∙◌, subst}
+use mathlib.Core.Bool.{Bool, true, false, cond}
 use mathlib.Core.List.{List, [], ◌∷◌, ◌++◌, append_assoc}
 use mathlib.Core.Option.{Option, none, some}
-use Prim.Native.Nat.{ℕ, ◌+◌, ◌≤◌, ◌<◌, max}
+use Rattle.std.proofs.Common.{Option as CodeOption, Some, None}
+use Prim.Native.Nat.{ℕ, zero, suc, ◌+◌, ◌≤◌, ◌<◌, max}
 use native.Mathlib.Numerals.{add-one}
 use native.Mathlib.Omega.{arith}
-use borrow.Author.Tests.{eq-eqb, ne_eqb, not-true, not-false}
+use borrow.Author.Tests.{eq-eqb, ne_eqb}
 use lib.Dec.{eqb}
 use lib.ListN.{length, take, drop, set, length-append, length-drop}
 use lib.Seq.{take_at, drop_at, length-take-le, drop-drop, set_split}
-use Rattle.grammar.specs.Pieces.{Word, word, operator, item, constant, Constant, number}
+use Rattle.grammar.specs.Pieces.{Word, Retrieve, Where, Not, And, Or, Opening, Closing, Comma, word, operator, item, constant, Constant, number}
 use Rattle.grammar.specs.Parser.{Next, at_end, wrong, found, next_at, word_number, behind}
-use Rattle.text.specs.Tokens.{constant_token, token_of, shown, token_at}
-use Rattle.text.specs.Programs.{written, nothing, after_token, with_word, word_written}
+use Rattle.text.specs.Tokens.{code_word, code_word_number, constant_token, token_of, shown, token_at}
+use Rattle.text.specs.Programs.{written, after_token, with_word, word_written}
+use Rattle.text.specs.declared.Word.{Word as CodeWord}
+use Rattle.text.specs.declared.Word.TheVariants as Code
 use Rattle.text.specs.declared.Token.{Token}
 use Rattle.text.specs.declared.Token.TheVariants.{AtEnd, NoPiece, WordAt, OperatorAt, ItemAt, NumberAt}
 use Rattle.text.specs.declared.Parse.{Parse}
-use Rattle.grammar.proofs.Nexts.{found_within}
 use Rattle.grammar.proofs.Sound.{behind_word}
 
 -- ---- words written
@@ -74,99 +76,121 @@ module _ (at : ℕ) (s t bytes : List ℕ) (h : at + length s ≤ length bytes) 
 
 -- ---- the word behind a position
 
-module _ (u t : Token) (n : ℕ) (g : u ≡ t) where
-  pub after_yes : (v next : ℕ) → u ≡ WordAt v next → v ≡ n → next ≡ after_token n t
-  unfolding after_token
-  after_yes v next e h = sym (ap (after_token n) (sym g ∙ e) ∙ rw (eq-eqb v n h))
+-- words are told apart by their numbers
+word_of_number : ℕ → CodeWord
+word_of_number zero = Code.Retrieve
+word_of_number (suc zero) = Code.Where
+word_of_number (suc (suc zero)) = Code.Not
+word_of_number (suc (suc (suc zero))) = Code.And
+word_of_number (suc (suc (suc (suc zero)))) = Code.Or
+word_of_number (suc (suc (suc (suc (suc zero))))) = Code.Open
+word_of_number (suc (suc (suc (suc (suc (suc zero)))))) = Code.Close
+word_of_number (suc (suc (suc (suc (suc (suc (suc n))))))) = Code.Comma
 
-  pub after_no : (v next : ℕ) → u ≡ WordAt v next → (v ≡ n → ⊥) → 0 ≡ after_token n t
-  unfolding after_token
-  after_no v next e h = sym (ap (after_token n) (sym g ∙ e) ∙ rw (ne_eqb v n h))
+numbered : (w : CodeWord) → word_of_number (code_word_number w) ≡ w
+unfolding word_of_number code_word_number
+numbered Code.Retrieve = refl
+numbered Code.Where = refl
+numbered Code.Not = refl
+numbered Code.And = refl
+numbered Code.Or = refl
+numbered Code.Open = refl
+numbered Code.Close = refl
+numbered Code.Comma = refl
 
-pub after_other : (t : Token) (n : ℕ) → ((v next : ℕ) → t ≡ WordAt v next → ⊥) → 0 ≡ after_token n t
+same_word : (v w : CodeWord) → code_word_number v ≡ code_word_number w → v ≡ w
+same_word v w e = sym (numbered v) ∙ ap word_of_number e ∙ numbered w
+
+word_numbered : (w : Word) → code_word_number (code_word w) ≡ word_number w
+unfolding code_word code_word_number word_number
+word_numbered Retrieve = refl
+word_numbered Where = refl
+word_numbered Not = refl
+word_numbered And = refl
+word_numbered Or = refl
+word_numbered Opening = refl
+word_numbered Closing = refl
+word_numbered Comma = refl
+
+module _ (t : Token) (w : CodeWord) where
+  pub after_yes : (v : CodeWord) (next : ℕ) → WordAt v next ≡ t → v ≡ w → Some next ≡ after_token w t
+  unfolding after_token
+  after_yes v next e h =
+      sym (ap (after_token w) (sym e) ∙ rw (eq-eqb (code_word_number v) (code_word_number w) (ap code_word_number h)))
+
+  pub after_no : (v : CodeWord) (next : ℕ) → WordAt v next ≡ t → (v ≡ w → ⊥) → None ≡ after_token w t
+  unfolding after_token
+  after_no v next e h =
+      sym (ap (after_token w) (sym e)
+      ∙ rw (ne_eqb (code_word_number v) (code_word_number w) (λ k. h (same_word v w k))))
+
+pub after_other : (t : Token) (w : CodeWord) → ((v : CodeWord) (next : ℕ) → t ≡ WordAt v next → ⊥)
+    → None ≡ after_token w t
 unfolding after_token
-after_other AtEnd n h = refl
-after_other NoPiece n h = refl
-after_other (WordAt v next) n h = absurd (h _ _ refl)
-after_other (OperatorAt o next) n h = refl
-after_other (ItemAt v m next) n h = refl
-after_other (NumberAt b m next) n h = refl
+after_other AtEnd w h = refl
+after_other NoPiece w h = refl
+after_other (WordAt v next) w h = absurd (h _ _ refl)
+after_other (OperatorAt o next) w h = refl
+after_other (ItemAt v m next) w h = refl
+after_other (NumberAt b m next) w h = refl
 
-AfterIs : Option ℕ → ℕ → Type 0
-AfterIs none r = r ≡ 0
-AfterIs (some m) r = r ≡ m
+-- the code's option is the grammar's
+AfterIs : Option ℕ → CodeOption ℕ → Type 0
+AfterIs none r = r ≡ None
+AfterIs (some m) r = r ≡ Some m
 
-constant_after : (n : ℕ) (k : Constant) (next : ℕ) → after_token n (constant_token k next) ≡ 0
+constant_after : (w : CodeWord) (k : Constant) (next : ℕ) → after_token w (constant_token k next) ≡ None
 unfolding after_token constant_token
-constant_after n (number minus digits) next = refl
+constant_after w (number minus digits) next = refl
 
-word_after : (v w : Word) (next : ℕ) (t : Bool) → eqb (word_number v) (word_number w) ≡ t → (x : Option ℕ)
-    → cond {A = Option ℕ} t (some next) none ≡ x → AfterIs x (cond t next 0)
+word_after : (next : ℕ) (t : Bool) → AfterIs (cond {A = Option ℕ} t (some next) none) (cond t (Some next) None)
 unfolding AfterIs
-word_after v w next true e none h = let z : ◌≡◌ {A = ℕ} 0 1 = cc in absurd (omega arith)
-word_after v w next true e (some m) h = let g : next ≡ m = cc in g
-word_after v w next false e none h = refl
-word_after v w next false e (some m) h = let z : ◌≡◌ {A = ℕ} 0 1 = cc in absurd (omega arith)
+word_after next true = refl
+word_after next false = refl
 
--- the number for a position behind a word
-next_after : (w : Word) (y : Next) (x : Option ℕ) → behind w y ≡ x → AfterIs x (after_token (word_number w) (shown y))
+-- the code's position behind a word
+next_after : (w : Word) (y : Next) → AfterIs (behind w y) (after_token (code_word w) (shown y))
 unfolding AfterIs behind after_token shown token_of
-next_after w at_end none e = refl
-next_after w wrong none e = refl
-next_after w (found (operator o) next) none e = refl
-next_after w (found (item i) next) none e = refl
-next_after w (found (constant k) next) none e = constant_after (word_number w) k next
-next_after w at_end (some m) e = let z : ◌≡◌ {A = ℕ} 0 1 = cc in absurd (omega arith)
-next_after w wrong (some m) e = let z : ◌≡◌ {A = ℕ} 0 1 = cc in absurd (omega arith)
-next_after w (found (operator o) next) (some m) e = let z : ◌≡◌ {A = ℕ} 0 1 = cc in absurd (omega arith)
-next_after w (found (item i) next) (some m) e = let z : ◌≡◌ {A = ℕ} 0 1 = cc in absurd (omega arith)
-next_after w (found (constant k) next) (some m) e = let z : ◌≡◌ {A = ℕ} 0 1 = cc in absurd (omega arith)
-next_after w (found (word v) next) none e = word_after v w next (eqb (word_number v) (word_number w)) refl none e
-next_after w (found (word v) next) (some m) e = word_after v w next (eqb (word_number v) (word_number w)) refl (some m) e
+next_after w at_end = refl
+next_after w wrong = refl
+next_after w (found (operator o) next) = refl
+next_after w (found (item i) next) = refl
+next_after w (found (constant k) next) = constant_after (code_word w) k next
+next_after w (found (word v) next) =
+    rw (word_numbered v, word_numbered w) (word_after next (eqb (word_number v) (word_number w)))
 
-module _ (w : Word) (s : List ℕ) (at r : ℕ) (e : r ≡ after_token (word_number w) (token_at s at)) where
-  -- 0 says that the word does not stand there
-  pub after_none : r ≡ 0 → behind w (next_at s at) ≡ none
-  unfolding token_at AfterIs
-  after_none z = go (behind w (next_at s at)) refl
+module _ (w : Word) (s : List ℕ) (at : ℕ) where
+  after_is : (x : Option ℕ) → behind w (next_at s at) ≡ x → AfterIs x (after_token (code_word w) (token_at s at))
+  unfolding token_at
+  after_is x e =
+      subst (λ (y : Option ℕ). AfterIs y (after_token (code_word w) (shown (next_at s at)))) e
+      (next_after w (next_at s at))
+
+  pub after_none : None ≡ after_token (code_word w) (token_at s at) → behind w (next_at s at) ≡ none
+  unfolding AfterIs
+  after_none e = go (behind w (next_at s at)) refl
     where
       go : (x : Option ℕ) → behind w (next_at s at) ≡ x → behind w (next_at s at) ≡ none
       go none f = f
-      go (some m) f =
-          let there = next_after w (next_at s at) (some m) f in
-          let inside = found_within s at (behind_word w (next_at s at) m f) in
-          absurd (omega (arith, inside.after))
+      go (some m) f = let there = after_is (some m) f in cc
 
-  pub after_some : (r ≡ 0 → ⊥) → next_at s at ≡ found (word w) r
-  unfolding token_at AfterIs
-  after_some n = go (behind w (next_at s at)) refl
+  pub after_some : (next : ℕ) → Some next ≡ after_token (code_word w) (token_at s at)
+      → next_at s at ≡ found (word w) next
+  unfolding AfterIs
+  after_some next e = go (behind w (next_at s at)) refl
     where
-      go : (x : Option ℕ) → behind w (next_at s at) ≡ x → next_at s at ≡ found (word w) r
-      go none f = absurd (n (e ∙ next_after w (next_at s at) none f))
+      go : (x : Option ℕ) → behind w (next_at s at) ≡ x → next_at s at ≡ found (word w) next
+      go none f = let there = after_is none f in cc
       go (some m) f =
-          behind_word w (next_at s at) m f
-          ∙ ap (λ (k : ℕ). found (word w) k) (sym (e ∙ next_after w (next_at s at) (some m) f))
+          let there = after_is (some m) f in
+          let same : m ≡ next = cc in
+          behind_word w (next_at s at) m f ∙ ap (λ (k : ℕ). found (word w) k) same
 
 -- ---- a word more in a program
 
-module _ (e : Parse) (depth word : ℕ) (out : List ℕ) where
-  pub with_none : (r : Parse) → r ≡ nothing → not e.ok ≡ true
-      → (r ≡ with_word e depth) × (out ≡ word_written e word out)
-  unfolding with_word word_written
-  with_none r f n =
-      let no = not-true e.ok n in
-      (f ∙ sym (rw (no, with_word)), sym (rw (no, word_written)))
-
-  pub with_room : (e.ok ≡ true → e.end < length out) → not e.ok ≡ false → e.end < length out
-  with_room h n = h (not-false e.ok n)
-
-  pub with_done : (end d : ℕ) (out' : List ℕ) → not e.ok ≡ false → end ≡ e.end + 1 → d ≡ max depth e.depth
-      → out' ≡ written e.end (word ∷ []) out
-      → (record { ok = true; next = e.next; depth = d; end = end } ≡ with_word e depth) × (out' ≡ word_written e word out)
-  unfolding with_word word_written
-  with_done end d out' n f g h =
-      let yes' = not-false e.ok n in (
-        ap₂ {C = Parse} (λ (x y : ℕ). record { ok = true; next = e.next; depth = x; end = y }) g f
-            ∙ sym (rw (yes', with_word)),
-        h ∙ sym (rw (yes', word_written)),
-      )
+pub with_done : (e : Parse) (depth code : ℕ) (out : List ℕ) (end d : ℕ) (out' : List ℕ) → end ≡ e.end + 1
+    → d ≡ max depth e.depth → out' ≡ written e.end (code ∷ []) out
+    → (record { next = e.next; depth = d; end = end } ≡ with_word e depth) × (out' ≡ word_written e code out)
+unfolding with_word word_written
+with_done e depth code out end d out' f g h =
+    (ap₂ {C = Parse} (λ (x y : ℕ). record { next = e.next; depth = x; end = y }) g f, h)

@@ -1,19 +1,24 @@
 -- A condition as words: a postfix program, which the code writes into words that its caller lends.
 -- In order: the words of a comparison and of a condition; words written in their place; what a parser of the code gives
--- beside what its definition gives; the steps of a parser.
+-- beside what its definition gives; the steps of a parser. `Option` is the grammar's, and `CodeOption` the code's.
 -- Assumes nothing.
-use Rattle.std.specs.Prelude.{◌≡◌, Bool, true, false, cond, List, [], ◌∷◌, ◌++◌, ℕ, zero, suc, ◌+◌, ◌-◌, ◌*◌, ◌≤◌, ◌<◌, max, eqb, length, take, drop}
+use Rattle.std.specs.Prelude.{◌≡◌, Bool, true, false, cond, List, [], ◌∷◌, ◌++◌, ℕ, ◌+◌, ◌-◌, ◌*◌, ◌≤◌, ◌<◌, max, eqb, length, take, drop}
+use Rattle.std.specs.Prelude.{Option as CodeOption, Some, None}
 use Rattle.std.proofs.Math.Option.{Option, none, some}
 use Rattle.grammar.specs.Pieces.{Item, Constant, number}
 use Rattle.grammar.specs.Grammar.{Operand, of_item, of_constant, Comparison, Condition, compared, negated, both, either}
 use Rattle.grammar.specs.Grammar.{Reading}
 use Rattle.grammar.specs.Parser.{Parsed, failed, parsed, Deep}
-use Rattle.text.specs.Tokens.{operator_number, variable_number, name_number, magnitude, token_at}
+use Rattle.text.specs.Tokens.{letter_word, operator_number, variable_number, name_number, magnitude, code_word_number, code_operator_number, token_at}
+use Rattle.text.specs.declared.Word.{Word as CodeWord}
+use Rattle.text.specs.declared.Word.TheVariants as Code
 use Rattle.text.specs.declared.Token.{Token}
 use Rattle.text.specs.declared.Token.TheVariants.{AtEnd, NoPiece, WordAt, OperatorAt, ItemAt, NumberAt}
 use Rattle.text.specs.declared.Parse.{Parse}
 use Rattle.text.specs.declared.Items.{Items}
 use Rattle.text.specs.declared.Text.{Text}
+use Rattle.text.specs.declared.Operand.{Operand as CodeOperand}
+use Rattle.text.specs.declared.Operand.TheVariants as Side
 use Rattle.text.specs.declared.Compared.{Compared}
 
 -- ---- the words of a condition
@@ -47,9 +52,10 @@ unfoldable pub condition_words : Option Condition → List ℕ
 condition_words none = []
 condition_words (some c) = program c
 
-unfoldable pub is_conditional : Option Condition → Bool
-is_conditional none = false
-is_conditional (some c) = true
+-- a depth, where there is a condition
+unfoldable pub condition_depth : Option Condition → ℕ → CodeOption ℕ
+condition_depth none depth = None
+condition_depth (some c) depth = Some depth
 
 -- ---- the words of items: of each the letter of its variable and the number of its name
 
@@ -65,14 +71,10 @@ written at text words = take at words ++ (text ++ drop (at + length text) words)
 
 -- ---- what a parser gives
 
--- the code's value where there is no condition
-unfoldable pub nothing : Parse
-nothing = record { ok = false; next = 0; depth = 0; end = 0 }
-
 -- a condition from position at on, with its program written from word `to` on: at most two words to a byte
-pub record ShowsParsed (s : List ℕ) (at to : ℕ) (before after : List ℕ) (r : Parse) (c : Deep) (next : ℕ) : Type 0 where
-  pub same : r
-      ≡ record { ok = true; next = next; depth = c.depth; end = to + length (program c.condition) }
+pub record ShowsParsed (s : List ℕ) (at to : ℕ) (before after : List ℕ) (r : CodeOption Parse) (c : Deep) (next : ℕ)
+    : Type 0 where
+  pub same : r ≡ Some (record { next = next; depth = c.depth; end = to + length (program c.condition) })
   pub stands : after ≡ written to (program c.condition) before
   pub forward : at < next
   pub inside : next ≤ length s
@@ -80,79 +82,79 @@ pub record ShowsParsed (s : List ℕ) (at to : ℕ) (before after : List ℕ) (r
   pub depth : c.depth ≤ next - at
 
 -- where there is none, the words are as many as they were
-unfoldable pub Shows : List ℕ → ℕ → ℕ → List ℕ → List ℕ → Parse → Parsed Deep → Type 0
-Shows s at to before after r failed = (r ≡ nothing) × (length after ≡ length before)
+unfoldable pub Shows : List ℕ → ℕ → ℕ → List ℕ → List ℕ → CodeOption Parse → Parsed Deep → Type 0
+Shows s at to before after r failed = (r ≡ None) × (length after ≡ length before)
 Shows s at to before after r (parsed c next) = ShowsParsed s at to before after r c next
 
 -- the value shows what the definition f gives at every number from a bound on
-pub record Gave (f : ℕ → Parsed Deep) (bound : ℕ) (s : List ℕ) (at to : ℕ) (before after : List ℕ) (r : Parse)
-    : Type 0 where
+pub record Gave (f : ℕ → Parsed Deep) (bound : ℕ) (s : List ℕ) (at to : ℕ) (before after : List ℕ)
+    (r : CodeOption Parse) : Type 0 where
   pub given : Parsed Deep
   pub steady : (n : ℕ) → bound ≤ n → f n ≡ given
   pub shown : Shows s at to before after r given
 
 -- ---- the steps of a parser
 
--- the position behind the word with number n, 0 where another token stands
-unfoldable pub after_token : ℕ → Token → ℕ
-after_token n AtEnd = 0
-after_token n NoPiece = 0
-after_token n (WordAt v next) = cond (eqb v n) next 0
-after_token n (OperatorAt o next) = 0
-after_token n (ItemAt v m next) = 0
-after_token n (NumberAt b m next) = 0
+-- the position behind a word, where that word stands
+unfoldable pub after_token : CodeWord → Token → CodeOption ℕ
+after_token w AtEnd = None
+after_token w NoPiece = None
+after_token w (WordAt v next) = cond (eqb (code_word_number v) (code_word_number w)) (Some next) None
+after_token w (OperatorAt o next) = None
+after_token w (ItemAt v m next) = None
+after_token w (NumberAt b m next) = None
 
 -- a condition with one more word in its program, and what that word is
 unfoldable pub with_word : Parse → ℕ → Parse
-with_word e depth =
-    elim e.ok [
-      | true ↦ record { ok = true; next = e.next; depth = max depth e.depth; end = e.end + 1 }
-      | false ↦ nothing
-    ]
+with_word e depth = record { next = e.next; depth = max depth e.depth; end = e.end + 1 }
 
 unfoldable pub word_written : Parse → ℕ → List ℕ → List ℕ
-word_written e word words = elim e.ok [ true ↦ written e.end (word ∷ []) words | false ↦ words ]
+word_written e word words = written e.end (word ∷ []) words
 
--- a condition in parentheses: behind it the closing one, word 6, must stand
-unfoldable pub closed_by : Parse → ℕ → Parse
-closed_by c zero = nothing
-closed_by c (suc n) = record { ok = true; next = suc n; depth = c.depth + 1; end = c.end }
+-- a condition in parentheses: behind it the closing one must stand
+unfoldable pub closed_by : Parse → CodeOption ℕ → CodeOption Parse
+closed_by c None = None
+closed_by c (Some n) = Some (record { next = n; depth = c.depth + 1; end = c.end })
 
-unfoldable pub closing : List ℕ → Parse → Parse
-closing s c = elim c.ok [ true ↦ closed_by c (after_token 6 (token_at s c.next)) | false ↦ nothing ]
+unfoldable pub closing : List ℕ → Parse → CodeOption Parse
+closing s c = closed_by c (after_token Code.Close (token_at s c.next))
 
--- the words of a comparison that the code found
+-- the words of a right side and of a comparison that the code found
+unfoldable pub right_words : CodeOperand → List ℕ
+right_words (Side.Item v m) = letter_word v ∷ m ∷ []
+right_words (Side.Constant minus m) = sign_word minus ∷ m ∷ []
+
 unfoldable pub compared_words : Compared → List ℕ
-compared_words x = 0 ∷ x.letter ∷ x.name ∷ x.operator ∷ x.letter2 ∷ x.name2 ∷ []
+compared_words x = 0 ∷ letter_word x.letter ∷ x.name ∷ code_operator_number x.operator ∷ right_words x.right
 
-unfoldable pub ComparedShows : List ℕ → ℕ → Compared → Parsed Deep → Type 0
-ComparedShows s at r failed = r.ok ≡ false
-ComparedShows s at r (parsed c next) =
-    (r.ok ≡ true) × (r.next ≡ next) × (compared_words r ≡ program c.condition) × (c.depth ≡ 0)
-    × (at + 3 ≤ next) × (next ≤ length s)
+-- a comparison from position at on, and what the code found
+pub record ComparedParsed (s : List ℕ) (at : ℕ) (r : CodeOption Compared) (c : Deep) (next : ℕ) : Type 0 where
+  pub found : Compared
+  pub same : r ≡ Some found
+  pub behind : found.next ≡ next
+  pub words : compared_words found ≡ program c.condition
+  pub depth : c.depth ≡ 0
+  pub long : at + 3 ≤ next
+  pub inside : next ≤ length s
+
+unfoldable pub ComparedShows : List ℕ → ℕ → CodeOption Compared → Parsed Deep → Type 0
+ComparedShows s at r failed = r ≡ None
+ComparedShows s at r (parsed c next) = ComparedParsed s at r c next
 
 -- ---- the items of a text, and a text
 
--- the code's value where there are none
-unfoldable pub no_items : Items
-no_items = record { ok = false; count = 0; next = 0 }
-
 -- items from position at on, their words from the first on: at most one item to a byte
-pub record ItemsParsed (s : List ℕ) (at : ℕ) (before after : List ℕ) (r : Items) (is : List Item) (next : ℕ) : Type 0
-  where
-    pub same : r ≡ record { ok = true; count = length is; next = next }
-    pub stands : after ≡ written 0 (item_words is) before
-    pub forward : at < next
-    pub inside : next ≤ length s
-    pub few : length is ≤ next - at
+pub record ItemsParsed (s : List ℕ) (at : ℕ) (before after : List ℕ) (r : CodeOption Items) (is : List Item) (next : ℕ)
+    : Type 0 where
+  pub same : r ≡ Some (record { count = length is; next = next })
+  pub stands : after ≡ written 0 (item_words is) before
+  pub forward : at < next
+  pub inside : next ≤ length s
+  pub few : length is ≤ next - at
 
-unfoldable pub ItemsShow : List ℕ → ℕ → List ℕ → List ℕ → Items → Parsed (List Item) → Type 0
-ItemsShow s at before after r failed = (r ≡ no_items) × (length after ≡ length before)
+unfoldable pub ItemsShow : List ℕ → ℕ → List ℕ → List ℕ → CodeOption Items → Parsed (List Item) → Type 0
+ItemsShow s at before after r failed = (r ≡ None) × (length after ≡ length before)
 ItemsShow s at before after r (parsed is next) = ItemsParsed s at before after r is next
-
--- the code's value where the grammar does not have the text
-unfoldable pub no_text : Text
-no_text = record { ok = false; items = 0; conditional = false; depth = 0; end = 0 }
 
 -- only spaces stand there
 unfoldable pub is_at_end : Token → Bool
@@ -164,9 +166,9 @@ is_at_end (ItemAt v m next) = false
 is_at_end (NumberAt b m next) = false
 
 -- what was read, where only spaces stand behind it
-unfoldable pub text_if : Bool → Text → Text
-text_if true t = t
-text_if false t = no_text
+unfoldable pub text_if : Bool → Text → CodeOption Text
+text_if true t = Some t
+text_if false t = None
 
 -- the words of a reading: its items, then its condition
 unfoldable pub reading_words : Reading → List ℕ
@@ -174,13 +176,11 @@ reading_words r = item_words r.items ++ condition_words r.condition
 
 unfoldable pub text_of : Reading → Text
 text_of r = record {
-  ok = true;
   items = length r.items;
-  conditional = is_conditional r.condition;
-  depth = r.depth;
+  depth = condition_depth r.condition r.depth;
   end = length (reading_words r);
 }
 
-unfoldable pub TextShows : List ℕ → List ℕ → Text → Option Reading → Type 0
-TextShows before after r none = (r ≡ no_text) × (length after ≡ length before)
-TextShows before after r (some x) = (r ≡ text_of x) × (after ≡ written 0 (reading_words x) before)
+unfoldable pub TextShows : List ℕ → List ℕ → CodeOption Text → Option Reading → Type 0
+TextShows before after r none = (r ≡ None) × (length after ≡ length before)
+TextShows before after r (some x) = (r ≡ Some (text_of x)) × (after ≡ written 0 (reading_words x) before)

@@ -2,16 +2,54 @@
 #![tactic(auto)]
 
 ghost use Rattle.std.specs.Prelude.{◌≡◌, true, false, cond, [], ◌∷◌, eqb, ◌+◌, ◌-◌, ◌^◌, ◌*◌, ◌≤◌, ◌<◌, min, max, length, get_or, take, drop};
+ghost use Rattle.std.specs.List.{prefix_len};
 ghost use Rattle.grammar.specs.Pieces.{between, is_letter_or_digit};
 ghost use Rattle.grammar.specs.Parser.{run, begins};
-ghost use Rattle.text.specs.Programs.{after_token, nothing, written, with_word, word_written, sign_word};
-ghost use Rattle.text.specs.Programs.{ComparedShows, compared_words, closing, Gave, Shows, no_items, ItemsShow, no_text};
+ghost use Rattle.text.specs.Programs.{after_token, written, with_word, word_written, sign_word};
+ghost use Rattle.text.specs.Programs.{ComparedShows, compared_words, right_words, closing, Gave, Shows, ItemsShow};
 ghost use Rattle.text.specs.Programs.{is_at_end, text_if, TextShows};
 ghost use Rattle.grammar.specs.Parser.{comparison_at, or_at, and_at, not_at, primary_at, condition_at, items_at, parse};
-ghost use Rattle.text.specs.Tokens.{name_number, magnitude, token_at, word_token, item_token, number_token, fixed_token};
+ghost use Rattle.text.specs.Tokens.{letter_word, name_number, magnitude, token_at, word_token, item_token, number_token, fixed_token};
 
 // The most bytes that a text may have.
 pub const MAX_TEXT: usize = 1024;
+
+// The value of a constant whose digits say this or more: in no kind's range.
+const VALUE_BOUND: u64 = 1 << 32;
+
+// The words and marks of a text.
+#[derive(Clone, Copy, PartialEq, Eq)]
+pub enum Word {
+    Retrieve,
+    Where,
+    Not,
+    And,
+    Or,
+    Open,
+    Close,
+    Comma,
+}
+
+// The operators, in the order of their numbers in a program.
+#[derive(Clone, Copy)]
+pub enum Operator {
+    Equal,
+    Unequal,
+    Less,
+    AtMost,
+    Greater,
+    AtLeast,
+}
+
+// The first word of a comparison in a program.
+const COMPARISON: u64 = 0;
+
+// The words of a program that stand behind what they negate or join.
+const NOT: u64 = 1;
+
+const AND: u64 = 2;
+
+const OR: u64 = 3;
 
 // What stands at a position of a text, behind spaces: a piece, and the position behind it.
 #[derive(Clone, Copy)]
@@ -20,28 +58,27 @@ pub enum Token {
     AtEnd,
     // No piece.
     NoPiece,
-    // A word or mark: 0 `retrieve`, 1 `where`, 2 `not`, 3 `and`, 4 `or`, 5 and 6 the parentheses, 7 the comma.
-    WordAt(u8, usize),
-    // An operator's number.
-    OperatorAt(u8, usize),
-    // The letter of the variable, 0 for the blank one, and the number of the name.
-    ItemAt(u8, u64, usize),
+    WordAt(Word, usize),
+    OperatorAt(Operator, usize),
+    // The letter of the variable, none for the blank one, and the number of the name.
+    ItemAt(Option<u8>, u64, usize),
     // Whether there is a minus, and the value of the digits, 2 ^ 32 where it is more.
     NumberAt(bool, u64, usize),
-}
-
-// A byte as a number of 64 bits.
-fn wide(b: u8) -> u64
-    ensures { (result ≡ b) × (result < 256) }
-{
-    b as u64
 }
 
 // Whether a byte is one of those from `first` to `last`.
 fn between(first: u8, last: u8, b: u8) -> bool
     ensures { result ≡ between first last b }
 {
-    if b < first { false } else { b <= last }
+    first <= b && b <= last
+}
+
+// How many such bytes stand before the first other.
+fn run_length(s: &[u8], first: u8, last: u8) -> usize
+    ensures value { result ≡ prefix_len (between first last) s.now }
+    ensures within { result ≤ length s.now }
+{
+    s.iter().take_while(|b| between(first, last, **b)).count()
 }
 
 // Where the run of such bytes ends that stands at a position.
@@ -50,38 +87,21 @@ fn run_end(s: &[u8], at: usize, first: u8, last: u8) -> usize
     ensures value { result ≡ at + run (between first last) (drop at s.now) }
     ensures inside { result ≤ length s.now }
 {
-    let mut i = at;
-    while i < s.len() {
-        if !between(first, last, s[i]) {
-            return i;
-        }
-        i += 1;
-    }
-    i
+    at + run_length(&s[at..], first, last)
 }
 
 // The byte at a position, 0 behind the last.
 fn byte_at(s: &[u8], at: usize) -> u8
     ensures { result ≡ get_or s.now at 0 }
 {
-    if at < s.len() { s[at] } else { 0 }
+    s.get(at).copied().unwrap_or(0)
 }
 
 // Whether a letter or digit stands at a position.
 fn goes_on(s: &[u8], at: usize) -> bool
     ensures { result ≡ is_letter_or_digit (get_or s.now at 0) }
 {
-    if at >= s.len() {
-        return false;
-    }
-    let b = s[at];
-    if between(65, 90, b) {
-        return true;
-    }
-    if between(97, 122, b) {
-        return true;
-    }
-    between(48, 57, b)
+    byte_at(s, at).is_ascii_alphanumeric()
 }
 
 // Whether a text stands at a position.
@@ -89,24 +109,14 @@ fn stands(s: &[u8], at: usize, text: &[u8]) -> bool
     requires { at ≤ length s.now }
     ensures { result ≡ begins text.now (drop at s.now) }
 {
-    if s.len() - at < text.len() {
-        return false;
-    }
-    let mut i: usize = 0;
-    while i < text.len() {
-        if s[at + i] != text[i] {
-            return false;
-        }
-        i += 1;
-    }
-    true
+    s[at..].starts_with(text)
 }
 
-// The word with a number, spelled so, where it stands at a position.
-fn word(s: &[u8], at: usize, n: u8, text: &[u8]) -> Token
+// A word, spelled so, where it stands at a position.
+fn spelled_word(s: &[u8], at: usize, w: Word, text: &[u8]) -> Token
     requires at_in_bounds { at ≤ length s.now }
     requires text_len_bound { length text.now ≤ 8 }
-    ensures { result ≡ word_token n text.now (drop at s.now) at }
+    ensures { result ≡ word_token w text.now (drop at s.now) at }
 {
     if !stands(s, at, text) {
         return Token::NoPiece;
@@ -115,14 +125,14 @@ fn word(s: &[u8], at: usize, n: u8, text: &[u8]) -> Token
     if goes_on(s, end) {
         return Token::NoPiece;
     }
-    Token::WordAt(n, end)
+    Token::WordAt(w, end)
 }
 
 // The number of a letter of a name, and of a digit.
 fn above(b: u8, least: u8) -> u64
     ensures { (result ≡ b - least) × (result < 256) }
 {
-    if b < least { 0 } else { wide(b) - wide(least) }
+    u64::from(b.saturating_sub(least))
 }
 
 // The number of the name that the bytes from one position to another are.
@@ -131,19 +141,10 @@ fn name_number(s: &[u8], from: usize, end: usize) -> u64
     ensures { result ≡ name_number (take (end - from) (drop from s.now)) }
 {
     let mut m: u64 = 0;
-    let mut i = from;
-    while i < end {
-        m = m * 27 + above(s[i], 64);
-        i += 1;
+    for b in &s[from..end] {
+        m = m * 27 + above(*b, b'A' - 1);
     }
     m
-}
-
-// A number, 2 ^ 32 where it is more.
-fn capped(m: u64) -> u64
-    ensures { result ≡ min m (2 ^ 32) }
-{
-    if m < 4294967296 { m } else { 4294967296 }
 }
 
 // The value of the digits from one position to another, 2 ^ 32 where it is more.
@@ -152,21 +153,19 @@ fn magnitude(s: &[u8], from: usize, end: usize) -> u64
     ensures { result ≡ magnitude (take (end - from) (drop from s.now)) }
 {
     let mut m: u64 = 0;
-    let mut i = from;
-    while i < end {
-        m = capped(m * 10 + above(s[i], 48));
-        i += 1;
+    for b in &s[from..end] {
+        m = (m * 10 + above(*b, b'0')).min(VALUE_BOUND);
     }
     m
 }
 
 // The item whose name starts at a position, where one stands, of the variable with a letter.
 #[tactic(auto, using(crate::proofs::Marks::item_long))]
-fn item(s: &[u8], from: usize, letter: u8) -> Token
+fn item(s: &[u8], from: usize, letter: Option<u8>) -> Token
     requires { from ≤ length s.now }
     ensures { result ≡ item_token letter (drop from s.now) from }
 {
-    let end: usize = run_end(s, from, 65, 90);
+    let end: usize = run_end(s, from, b'A', b'Z');
     if end == from {
         return Token::NoPiece;
     }
@@ -184,7 +183,7 @@ fn constant(s: &[u8], from: usize, minus: bool) -> Token
     requires { from ≤ length s.now }
     ensures { result ≡ number_token minus (drop from s.now) from }
 {
-    let end: usize = run_end(s, from, 48, 57);
+    let end: usize = run_end(s, from, b'0', b'9');
     if end == from {
         return Token::NoPiece;
     }
@@ -194,15 +193,14 @@ fn constant(s: &[u8], from: usize, minus: bool) -> Token
     Token::NumberAt(minus, magnitude(s, from, end), end)
 }
 
-// The operator that begins with a byte which may stand alone, `alone` being its number then; with `=` behind it, it is
-// the next one.
-fn with_equal(s: &[u8], at: usize, alone: u8) -> Token
-    requires { (at < length s.now) × (alone < 6) }
-    ensures { result ≡ cond (eqb (get_or s.now (at + 1) 0) 61) (Token.OperatorAt (alone + 1) (at + 2))
+// The operator that begins with a byte which may stand alone, and is another one with `=` behind it.
+fn with_equal(s: &[u8], at: usize, alone: Operator, equal: Operator) -> Token
+    requires { at < length s.now }
+    ensures { result ≡ cond (eqb (get_or s.now (at + 1) 0) 61) (Token.OperatorAt equal (at + 2))
         (Token.OperatorAt alone (at + 1)) }
 {
-    if byte_at(s, at + 1) == 61 {
-        return Token::OperatorAt(alone + 1, at + 2);
+    if byte_at(s, at + 1) == b'=' {
+        return Token::OperatorAt(equal, at + 2);
     }
     Token::OperatorAt(alone, at + 1)
 }
@@ -212,10 +210,10 @@ fn less(s: &[u8], at: usize) -> Token
     requires { (at < length s.now) × (get_or s.now at 0 ≡ 60) }
     ensures { result ≡ fixed_token (drop at s.now) at }
 {
-    if byte_at(s, at + 1) == 62 {
-        return Token::OperatorAt(1, at + 2);
+    if byte_at(s, at + 1) == b'>' {
+        return Token::OperatorAt(Operator::Unequal, at + 2);
     }
-    with_equal(s, at, 2)
+    with_equal(s, at, Operator::Less, Operator::AtMost)
 }
 
 // The word, mark or operator that stands at a position.
@@ -223,19 +221,18 @@ fn fixed(s: &[u8], at: usize) -> Token
     requires { at < length s.now }
     ensures { result ≡ fixed_token (drop at s.now) at }
 {
-    let b = s[at];
-    match b {
-        114 => word(s, at, 0, b"retrieve"),
-        119 => word(s, at, 1, b"where"),
-        110 => word(s, at, 2, b"not"),
-        97 => word(s, at, 3, b"and"),
-        111 => word(s, at, 4, b"or"),
-        40 => Token::WordAt(5, at + 1),
-        41 => Token::WordAt(6, at + 1),
-        44 => Token::WordAt(7, at + 1),
-        60 => less(s, at),
-        62 => with_equal(s, at, 4),
-        61 => Token::OperatorAt(0, at + 1),
+    match s[at] {
+        b'r' => spelled_word(s, at, Word::Retrieve, b"retrieve"),
+        b'w' => spelled_word(s, at, Word::Where, b"where"),
+        b'n' => spelled_word(s, at, Word::Not, b"not"),
+        b'a' => spelled_word(s, at, Word::And, b"and"),
+        b'o' => spelled_word(s, at, Word::Or, b"or"),
+        b'(' => Token::WordAt(Word::Open, at + 1),
+        b')' => Token::WordAt(Word::Close, at + 1),
+        b',' => Token::WordAt(Word::Comma, at + 1),
+        b'<' => less(s, at),
+        b'>' => with_equal(s, at, Operator::Greater, Operator::AtLeast),
+        b'=' => Token::OperatorAt(Operator::Equal, at + 1),
         _ => Token::NoPiece,
     }
 }
@@ -245,34 +242,22 @@ pub fn token_at(s: &[u8], at: usize) -> Token
     requires { at ≤ length s.now }
     ensures { result ≡ token_at s.now at }
 {
-    let start: usize = run_end(s, at, 32, 32);
-    if start >= s.len() {
+    let start: usize = run_end(s, at, b' ', b' ');
+    let Some(b) = s.get(start) else {
         return Token::AtEnd;
+    };
+    match *b {
+        b'A'..=b'Z' => item(s, start, None),
+        b'a'..=b'z' if byte_at(s, start + 1) == b'.' => item(s, start + 2, Some(*b)),
+        b'0'..=b'9' => constant(s, start, false),
+        b'-' => constant(s, start + 1, true),
+        _ => fixed(s, start),
     }
-    let b = s[start];
-    if between(65, 90, b) {
-        return item(s, start, 0);
-    }
-    if between(97, 122, b) {
-        if byte_at(s, start + 1) == 46 {
-            return item(s, start + 2, b);
-        }
-        return fixed(s, start);
-    }
-    if between(48, 57, b) {
-        return constant(s, start, false);
-    }
-    if b == 45 {
-        return constant(s, start + 1, true);
-    }
-    fixed(s, start)
 }
 
-// What a parser of conditions finds.
+// A condition that a parser found.
 #[derive(Clone, Copy)]
 pub struct Parse {
-    // Whether there is one.
-    pub ok: bool,
     // The position of the text behind it.
     pub next: usize,
     // The depth of its parentheses.
@@ -281,48 +266,35 @@ pub struct Parse {
     pub end: usize,
 }
 
-// A comparison: two items by letter and number, or an item and a constant (letter 1, or 2 behind a minus, and the
-// magnitude).
+// The right side of a comparison.
+#[derive(Clone, Copy)]
+pub enum Operand {
+    // The letter of the variable, none for the blank one, and the number of the name.
+    Item(Option<u8>, u64),
+    // Whether there is a minus, and the magnitude.
+    Constant(bool, u64),
+}
+
+// A comparison: its left item by letter and number.
 #[derive(Clone, Copy)]
 pub struct Compared {
-    pub ok: bool,
-    pub letter: u8,
+    pub letter: Option<u8>,
     pub name: u64,
-    pub operator: u8,
-    pub letter2: u8,
-    pub name2: u64,
+    pub operator: Operator,
+    pub right: Operand,
+    // The position of the text behind it.
     pub next: usize,
 }
 
-// The position behind a word, where it stands at a position, and else 0.
-fn after(s: &[u8], at: usize, n: u8) -> usize
+// The position behind a word, where it stands at a position.
+fn after(s: &[u8], at: usize, w: Word) -> Option<usize>
     requires { at ≤ length s.now }
-    ensures { result ≡ after_token n (token_at s.now at) }
+    ensures { result ≡ after_token w (token_at s.now at) }
 {
-    let t = token_at(s, at);
-    if let Token::WordAt(v, next) = t {
-        if v == n { next } else { 0 }
-    } else {
-        0
-    }
-}
-
-// No condition.
-fn nothing() -> Parse
-    ensures { result ≡ nothing }
-{
-    Parse {
-        ok: false,
-        next: 0,
-        depth: 0,
-        end: 0,
-    }
-}
-
-fn larger(a: usize, b: usize) -> usize
-    ensures { result ≡ max a b }
-{
-    if a < b { b } else { a }
+    let Token::WordAt(v, next) = token_at(s, at) else {
+        return None;
+    };
+    if v == w { Some(next) } else { None }
 }
 
 // Writes one word of a program. The place behind it.
@@ -337,79 +309,67 @@ fn put(out: &mut [u64], at: usize, word: u64) -> usize
 
 // A condition with one more word in its program, of a depth or deeper.
 fn with_word(e: Parse, depth: usize, word: u64, out: &mut [u64]) -> Parse
-    requires { e.ok ≡ true → e.end < length out.old }
+    requires { e.end < length out.old }
     ensures value { result ≡ with_word e depth }
     ensures out_after { out.new ≡ word_written e word out.old }
 {
-    if !e.ok {
-        return nothing();
-    }
-    let end: usize = put(out, e.end, word);
     Parse {
-        ok: true,
         next: e.next,
-        depth: larger(depth, e.depth),
-        end,
+        depth: depth.max(e.depth),
+        end: put(out, e.end, word),
     }
 }
 
 // The first word of a constant.
-fn sign_word(minus: bool) -> u8
+fn sign_word(minus: bool) -> u64
     ensures { result ≡ sign_word minus }
 {
     if minus { 2 } else { 1 }
 }
 
-// No comparison.
-fn no_comparison() -> Compared
-    ensures { result.ok ≡ false }
+// The first word of an item.
+fn letter_word(letter: Option<u8>) -> u64
+    ensures { result ≡ letter_word letter }
 {
-    Compared {
-        ok: false,
-        letter: 0,
-        name: 0,
-        operator: 0,
-        letter2: 0,
-        name2: 0,
-        next: 0,
+    match letter {
+        Some(b) => u64::from(b),
+        None => 0,
+    }
+}
+
+// The two words of a right side.
+fn right_words(x: Operand) -> (u64, u64)
+    ensures { result.0 ∷ result.1 ∷ [] ≡ right_words x }
+{
+    match x {
+        Operand::Item(letter, name) => (letter_word(letter), name),
+        Operand::Constant(minus, magnitude) => (sign_word(minus), magnitude),
     }
 }
 
 // The comparison that stands at a position.
-fn comparison_at(s: &[u8], at: usize) -> Compared
+fn comparison_at(s: &[u8], at: usize) -> Option<Compared>
     requires { at ≤ length s.now }
     ensures { ComparedShows s.now at result (comparison_at s.now at) }
 {
-    let first = token_at(s, at);
-    let Token::ItemAt(letter, name, mid) = first else {
-        return no_comparison();
+    let Token::ItemAt(letter, name, mid) = token_at(s, at) else {
+        return None;
     };
-    let second = token_at(s, mid);
-    let Token::OperatorAt(operator, late) = second else {
-        return no_comparison();
+    let Token::OperatorAt(operator, late) = token_at(s, mid) else {
+        return None;
     };
-    let third = token_at(s, late);
-    match third {
-        Token::ItemAt(letter2, name2, next) => Compared {
-            ok: true,
-            letter,
-            name,
-            operator,
-            letter2,
-            name2,
-            next,
-        },
-        Token::NumberAt(minus, name2, next) => Compared {
-            ok: true,
-            letter,
-            name,
-            operator,
-            letter2: sign_word(minus),
-            name2,
-            next,
-        },
-        _ => no_comparison(),
-    }
+    let (right, next) = match token_at(s, late) {
+        Token::ItemAt(letter, name, next) => (Operand::Item(letter, name), next),
+        Token::NumberAt(minus, magnitude, next) => (Operand::Constant(minus, magnitude), next),
+        _ => return None,
+    };
+    Some(Compared {
+        letter,
+        name,
+        operator,
+        right,
+        next,
+    })
 }
 
 // Writes the words of a comparison.
@@ -418,128 +378,104 @@ fn put_comparison(x: Compared, out: &mut [u64], to: usize) -> usize
     ensures value { result ≡ to + 6 }
     ensures out_after { out.new ≡ written to (compared_words x) out.old }
 {
-    let mut at = put(out, to, 0);
-    at = put(out, at, wide(x.letter));
+    let (first, second) = right_words(x.right);
+    let mut at = put(out, to, COMPARISON);
+    at = put(out, at, letter_word(x.letter));
     at = put(out, at, x.name);
-    at = put(out, at, wide(x.operator));
-    at = put(out, at, wide(x.letter2));
-    put(out, at, x.name2)
+    at = put(out, at, x.operator as u64);
+    at = put(out, at, first);
+    put(out, at, second)
 }
 
 // The condition in parentheses, behind which a closing one must stand.
-fn closed(s: &[u8], c: Parse) -> Parse
-    requires { c.ok ≡ true → (c.next ≤ length s.now) × (c.depth < length s.now) }
+fn closed(s: &[u8], c: Parse) -> Option<Parse>
+    requires { (c.next ≤ length s.now) × (c.depth < length s.now) }
     ensures { result ≡ closing s.now c }
 {
-    if !c.ok {
-        return nothing();
-    }
-    let end: usize = after(s, c.next, 6);
-    if end == 0 {
-        return nothing();
-    }
-    Parse {
-        ok: true,
-        next: end,
+    let next = after(s, c.next, Word::Close)?;
+    Some(Parse {
+        next,
         depth: c.depth + 1,
         end: c.end,
-    }
+    })
 }
 
 // The comparison that stands at a position, as a condition.
-fn comparison(s: &[u8], at: usize, out: &mut [u64], to: usize) -> Parse
+fn comparison(s: &[u8], at: usize, out: &mut [u64], to: usize) -> Option<Parse>
     requires { (at ≤ length s.now) × (to + 2 * (length s.now - at) ≤ length out.old) }
     ensures { Gave (λ n. comparison_at s.now at) 0 s.now at to out.old
         out.new result }
 {
-    let x = comparison_at(s, at);
-    if !x.ok {
-        return nothing();
-    }
-    let end: usize = put_comparison(x, out, to);
-    Parse {
-        ok: true,
+    let x = comparison_at(s, at)?;
+    let end = put_comparison(x, out, to);
+    Some(Parse {
         next: x.next,
         depth: 0,
         end,
-    }
+    })
 }
 
 // "or, and, not and primary parsers call each other, remaining depth and bytes falling": the condition that stands at a
 // position, its program written from word `to` on. First those parted by `or`.
 #[cycle(and_at_not_at_or_at_primary_at)]
-fn or_at(s: &[u8], at: usize, out: &mut [u64], to: usize) -> Parse
+fn or_at(s: &[u8], at: usize, out: &mut [u64], to: usize) -> Option<Parse>
     requires { (at ≤ length s.now) × (to + 2 * (length s.now - at) ≤ length out.old) }
     ensures { Gave (λ n. or_at n s.now at) (4 * (length s.now - at) + 4) s.now at
         to out.old out.new result }
 {
-    let mut c = and_at(s, at, out, to);
-    loop {
-        if !c.ok {
-            return c;
-        }
-        let next: usize = after(s, c.next, 4);
-        if next == 0 {
-            return c;
-        }
-        let e = and_at(s, next, out, c.end);
-        c = with_word(e, c.depth, 3, out);
+    let mut c = and_at(s, at, out, to)?;
+    while let Some(next) = after(s, c.next, Word::Or) {
+        let e = and_at(s, next, out, c.end)?;
+        c = with_word(e, c.depth, OR, out);
     }
+    Some(c)
 }
 
 // Those parted by `and`.
 #[cycle(and_at_not_at_or_at_primary_at)]
-fn and_at(s: &[u8], at: usize, out: &mut [u64], to: usize) -> Parse
+fn and_at(s: &[u8], at: usize, out: &mut [u64], to: usize) -> Option<Parse>
     requires { (at ≤ length s.now) × (to + 2 * (length s.now - at) ≤ length out.old) }
     ensures { Gave (λ n. and_at n s.now at) (4 * (length s.now - at) + 3) s.now at
         to out.old out.new result }
 {
-    let mut c = not_at(s, at, out, to);
-    loop {
-        if !c.ok {
-            return c;
-        }
-        let next: usize = after(s, c.next, 3);
-        if next == 0 {
-            return c;
-        }
-        let e = not_at(s, next, out, c.end);
-        c = with_word(e, c.depth, 2, out);
+    let mut c = not_at(s, at, out, to)?;
+    while let Some(next) = after(s, c.next, Word::And) {
+        let e = not_at(s, next, out, c.end)?;
+        c = with_word(e, c.depth, AND, out);
     }
+    Some(c)
 }
 
 // One behind `not`, or a primary.
 #[cycle(and_at_not_at_or_at_primary_at)]
-fn not_at(s: &[u8], at: usize, out: &mut [u64], to: usize) -> Parse
+fn not_at(s: &[u8], at: usize, out: &mut [u64], to: usize) -> Option<Parse>
     requires { (at ≤ length s.now) × (to + 2 * (length s.now - at) ≤ length out.old) }
     ensures { Gave (λ n. not_at n s.now at) (4 * (length s.now - at) + 2) s.now at
         to out.old out.new result }
 {
-    let next: usize = after(s, at, 2);
-    if next == 0 {
+    let Some(next) = after(s, at, Word::Not) else {
         return primary_at(s, at, out, to);
-    }
-    let c = not_at(s, next, out, to);
-    with_word(c, 0, 1, out)
+    };
+    let c = not_at(s, next, out, to)?;
+    Some(with_word(c, 0, NOT, out))
 }
 
 // A comparison, or a condition in parentheses.
 #[cycle(and_at_not_at_or_at_primary_at)]
-fn primary_at(s: &[u8], at: usize, out: &mut [u64], to: usize) -> Parse
+fn primary_at(s: &[u8], at: usize, out: &mut [u64], to: usize) -> Option<Parse>
     requires { (at ≤ length s.now) × (to + 2 * (length s.now - at) ≤ length out.old) }
     ensures { Gave (λ n. primary_at n s.now at) (4 * (length s.now - at) + 1) s.now
         at to out.old out.new result }
 {
-    let next: usize = after(s, at, 5);
-    if next == 0 {
+    let Some(next) = after(s, at, Word::Open) else {
         return comparison(s, at, out, to);
-    }
-    let c = or_at(s, next, out, to);
+    };
+    let c = or_at(s, next, out, to)?;
     closed(s, c)
 }
 
 // The condition that stands at a position, its program written from the first word on.
-pub fn condition_at(s: &[u8], at: usize, out: &mut [u64]) -> Parse
+pub fn condition_at(s: &[u8], at: usize, out: &mut [u64]) -> Option<Parse>
     requires { (at ≤ length s.now) × (2 * length s.now ≤ length out.old) }
     ensures { Shows s.now at 0 out.old out.new result
         (condition_at s.now at) }
@@ -550,27 +486,14 @@ pub fn condition_at(s: &[u8], at: usize, out: &mut [u64]) -> Parse
 // The items that a text asks for.
 #[derive(Clone, Copy)]
 pub struct Items {
-    // Whether there are some.
-    pub ok: bool,
     // How many, and the position of the text behind the last.
     pub count: usize,
     pub next: usize,
 }
 
-// No items.
-fn no_items() -> Items
-    ensures { result ≡ no_items }
-{
-    Items {
-        ok: false,
-        count: 0,
-        next: 0,
-    }
-}
-
 // The items that stand at a position, two words each (the letter of the variable and the number of the name), from the
 // first word on.
-fn items_at(s: &[u8], at: usize, out: &mut [u64]) -> Items
+fn items_at(s: &[u8], at: usize, out: &mut [u64]) -> Option<Items>
     requires { (at ≤ length s.now) × (2 * length s.now ≤ length out.old) }
     ensures { ItemsShow s.now at out.old out.new result
         (items_at (length s.now) s.now at) }
@@ -578,21 +501,18 @@ fn items_at(s: &[u8], at: usize, out: &mut [u64]) -> Items
     let mut here: usize = at;
     let mut n: usize = 0;
     loop {
-        let t = token_at(s, here);
-        let Token::ItemAt(letter, name, mid) = t else {
-            return no_items();
+        let Token::ItemAt(letter, name, mid) = token_at(s, here) else {
+            return None;
         };
-        let place: usize = put(out, 2 * n, wide(letter));
+        let place: usize = put(out, 2 * n, letter_word(letter));
         put(out, place, name);
         n += 1;
-        let next: usize = after(s, mid, 7);
-        if next == 0 {
-            return Items {
-                ok: true,
+        let Some(next) = after(s, mid, Word::Comma) else {
+            return Some(Items {
                 count: n,
                 next: mid,
-            };
-        }
+            });
+        };
         here = next;
     }
 }
@@ -600,26 +520,11 @@ fn items_at(s: &[u8], at: usize, out: &mut [u64]) -> Items
 // What a text says: its items stand in the first 2 * items words, the program of its condition behind them.
 #[derive(Clone, Copy)]
 pub struct Text {
-    // Whether the grammar has it.
-    pub ok: bool,
     pub items: usize,
-    // Whether it has a condition, the depth of its parentheses, and the place behind the last word.
-    pub conditional: bool,
-    pub depth: usize,
+    // The depth of the parentheses of its condition, where it has one.
+    pub depth: Option<usize>,
+    // The place behind the last word.
     pub end: usize,
-}
-
-// Not in the grammar.
-fn no_text() -> Text
-    ensures { result ≡ no_text }
-{
-    Text {
-        ok: false,
-        items: 0,
-        conditional: false,
-        depth: 0,
-        end: 0,
-    }
 }
 
 // Whether only spaces stand from a position on.
@@ -628,65 +533,39 @@ fn is_end(s: &[u8], at: usize) -> bool
     ensures { result ≡ is_at_end (token_at s.now at) }
 {
     let t = token_at(s, at);
-    match t {
-        Token::AtEnd => true,
-        _ => false,
-    }
+    matches!(t, Token::AtEnd)
 }
 
 // What was read up to a position, if only spaces stand behind it.
-fn text_end(s: &[u8], at: usize, t: Text) -> Text
+fn text_end(s: &[u8], at: usize, t: Text) -> Option<Text>
     requires { at ≤ length s.now }
     ensures { result ≡ text_if (is_at_end (token_at s.now at)) t }
 {
-    if is_end(s, at) {
-        return t;
-    }
-    no_text()
+    if is_end(s, at) { Some(t) } else { None }
 }
 
-// Reads a text into words, two to a byte at most: what the grammar says of it.
-pub fn read_text(s: &[u8], out: &mut [u64]) -> Text
+// Reads a text into words, two to a byte at most: what the grammar says of it, where the grammar has it.
+pub fn read_text(s: &[u8], out: &mut [u64]) -> Option<Text>
     requires { 2 * length s.now ≤ length out.old }
     ensures { TextShows out.old out.new result (parse s.now) }
 {
-    let first: usize = after(s, 0, 0);
-    if first == 0 {
-        return no_text();
-    }
-    let second: usize = after(s, first, 5);
-    if second == 0 {
-        return no_text();
-    }
-    let is = items_at(s, second, out);
-    if !is.ok {
-        return no_text();
-    }
-    let fourth: usize = after(s, is.next, 6);
-    if fourth == 0 {
-        return no_text();
-    }
-    let from: usize = 2 * is.count;
-    let wanted: usize = after(s, fourth, 1);
-    if wanted == 0 {
+    let first = after(s, 0, Word::Retrieve)?;
+    let second = after(s, first, Word::Open)?;
+    let list = items_at(s, second, out)?;
+    let fourth = after(s, list.next, Word::Close)?;
+    let from: usize = 2 * list.count;
+    let Some(wanted) = after(s, fourth, Word::Where) else {
         let plain = Text {
-            ok: true,
-            items: is.count,
-            conditional: false,
-            depth: 0,
+            items: list.count,
+            depth: None,
             end: from,
         };
         return text_end(s, fourth, plain);
-    }
-    let c = or_at(s, wanted, out, from);
-    if !c.ok {
-        return no_text();
-    }
+    };
+    let c = or_at(s, wanted, out, from)?;
     let whole = Text {
-        ok: true,
-        items: is.count,
-        conditional: true,
-        depth: c.depth,
+        items: list.count,
+        depth: Some(c.depth),
         end: c.end,
     };
     text_end(s, c.next, whole)

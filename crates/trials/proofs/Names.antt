@@ -8,26 +8,31 @@ use Rattle.numbers.proofs.index.Met.{met as numbers-index}
 use Rattle.numbers.proofs.long.Met.{met as numbers-long}
 use Rattle.numbers.proofs.byte.Met.{met as numbers-byte}
 use Rattle.numbers.proofs.flag.Met.{met as numbers-flag}
-use Rattle.sets.proofs.has.Met.{met as sets-has}
-use Rattle.sets.proofs.within.Met.{met as sets-within}
+use Rattle.refusals.proofs.Refusal.number.Met.{met as refusals-number}
+use Rattle.refusals.proofs.Refusal.from_number.Met.{met as refusals-from-number}
+use Rattle.refusals.proofs.number.Met.{met as refusals-number-of-any}
+use Rattle.sets.proofs.U32Mask.has.Met.{met as sets-has}
+use Rattle.sets.proofs.U32Mask.within.Met.{met as sets-within}
 use Rattle.sets.proofs.within_each.Met.{met as sets-within-each}
-use Rattle.sets.proofs.intersection.Met.{met as sets-intersection}
-use Rattle.sets.proofs.union.Met.{met as sets-union}
-use Rattle.sets.proofs.difference.Met.{met as sets-difference}
-use Rattle.sets.proofs.single.Met.{met as sets-single}
-use Rattle.sets.proofs.insert.Met.{met as sets-insert}
-use Rattle.sets.proofs.remove.Met.{met as sets-remove}
-use Rattle.sets.proofs.is_empty.Met.{met as sets-is-empty}
-use Rattle.sets.proofs.count.Met.{met as sets-count}
+use Rattle.sets.proofs.U32Mask.intersection.Met.{met as sets-intersection}
+use Rattle.sets.proofs.U32Mask.union.Met.{met as sets-union}
+use Rattle.sets.proofs.U32Mask.difference.Met.{met as sets-difference}
+use Rattle.sets.proofs.U32Mask.single.Met.{met as sets-single}
+use Rattle.sets.proofs.Mask.insert.Met.{met as sets-insert}
+use Rattle.sets.proofs.Mask.remove.Met.{met as sets-remove}
+use Rattle.sets.proofs.U32Mask.is_empty.Met.{met as sets-is-empty}
+use Rattle.sets.proofs.U32Mask.count.Met.{met as sets-count}
 use Rattle.sets.proofs.rank.Met.{met as sets-rank}
-use Rattle.sets.proofs.lowest.Met.{met as sets-lowest}
-use Rattle.sets.proofs.has_object.Met.{met as sets-has-object}
-use Rattle.sets.proofs.objects_within.Met.{met as sets-objects-within}
-use Rattle.sets.proofs.single_object.Met.{met as sets-single-object}
-use Rattle.sets.proofs.insert_object.Met.{met as sets-insert-object}
-use Rattle.sets.proofs.remove_object.Met.{met as sets-remove-object}
-use Rattle.sets.proofs.no_objects.Met.{met as sets-no-objects}
-use Rattle.sets.proofs.lowest_object.Met.{met as sets-lowest-object}
+use Rattle.sets.proofs.U32Mask.lowest.Met.{met as sets-lowest}
+use Rattle.sets.proofs.U64Mask.has.Met.{met as sets-has-object}
+use Rattle.sets.proofs.U64Mask.within.Met.{met as sets-objects-within}
+use Rattle.sets.proofs.U64Mask.single.Met.{met as sets-single-object}
+use Rattle.sets.proofs.U64Mask.is_empty.Met.{met as sets-no-objects}
+use Rattle.sets.proofs.U64Mask.lowest.Met.{met as sets-lowest-object}
+use Rattle.sets.proofs.U64Mask.intersection.Met.{met as sets-intersection-of-objects}
+use Rattle.sets.proofs.U64Mask.union.Met.{met as sets-union-of-objects}
+use Rattle.sets.proofs.U64Mask.difference.Met.{met as sets-difference-of-objects}
+use Rattle.sets.proofs.U64Mask.count.Met.{met as sets-count-of-objects}
 use Rattle.values.proofs.missing.Met.{met as values-missing}
 use Rattle.values.proofs.in_range.Met.{met as values-in-range}
 use Rattle.values.proofs.key.Met.{met as values-key}
@@ -41,8 +46,8 @@ use Rattle.records.proofs.byte_at.Met.{met as records-byte-at}
 use Rattle.records.proofs.word_at.Met.{met as records-word-at}
 use Rattle.records.proofs.long_at.Met.{met as records-long-at}
 use Rattle.records.proofs.is_kind.Met.{met as records-is-kind}
-use Rattle.records.proofs.of_book.Met.{met as records-of-book}
-use Rattle.records.proofs.of_query.Met.{met as records-of-query}
+use Rattle.records.proofs.is_of.Met.{met as records-is-of}
+use Rattle.records.proofs.unread.Met.{met as records-unread}
 use Rattle.records.proofs.body_length.Met.{met as records-body-length}
 use Rattle.records.proofs.masks_of.Met.{met as records-masks-of}
 use Rattle.records.proofs.kind_of.Met.{met as records-kind-of}
@@ -55,7 +60,6 @@ use Rattle.reduction.proofs.kept_sets.Met.{met as reduction-kept-sets}
 use Rattle.reduction.proofs.is_acyclic.Met.{met as reduction-is-acyclic}
 use Rattle.relation.proofs.cell.Met.{met as relation-cell}
 use Rattle.scheme.proofs.first.Met.{met as scheme-first}
-use Rattle.scheme.proofs.first_object_sets.Met.{met as scheme-first-object-sets}
 use Rattle.scheme.proofs.closure.Met.{met as scheme-closure}
 use Rattle.scheme.proofs.family_of.Met.{met as scheme-family-of}
 use Rattle.scheme.proofs.attributes_of.Met.{met as scheme-attributes-of}
@@ -116,6 +120,7 @@ use Rattle.host.proofs.vingarbu_refusal_text.Met.{met as host-vingarbu-refusal-t
 use Rattle.host.proofs.vingarbu_sheet.Met.{met as host-vingarbu-sheet}
 use Rattle.host.proofs.vingarbu_sheets.Met.{met as host-vingarbu-sheets}
 -- ---- theorems
+use Rattle.refusals.proofs.Numbers.{numbered_exactly}
 use Rattle.sets.proofs.Theorems.{members_of_sets, equal_sets, containment, rank_and_count, lowest_member}
 use Rattle.sets.proofs.Theorems.{members_listed, plain_containment}
 use Rattle.values.proofs.Theorems.{missing_cells, ordered_by_value, ordered_across, matches_mean, operators_mean}
@@ -138,7 +143,7 @@ use Rattle.scheme.proofs.Theorems.{cyclic_is_a_fault}
 use Rattle.scheme.proofs.Theorems.{maximal_objects_are_the_list}
 use Rattle.scheme.proofs.Examples.{trials_hold as scheme-trials-hold}
 use Rattle.book.proofs.Theorems.{fault_means, read_exactly, number_means, accepted_say, row_in_bytes}
-use Rattle.book.proofs.Theorems.{nine_means, scheme_well_formed}
+use Rattle.book.proofs.Theorems.{nine_means, scheme_well_formed, refusal_numbered}
 use Rattle.book.proofs.Theorems.{maximal_objects_read, tables_of_book, maximal_objects_of_book}
 use Rattle.book.proofs.Examples.{trials_hold as book-trials-hold, bounds_hold, layouts_hold}
 use Rattle.relation.proofs.Examples.{trials_hold, each_may_stand, paired_agree, survey_disagrees, empty_tables_agree}

@@ -9,9 +9,9 @@ fn show_book(rt: &impl Print, name: &[u8], bytes: &[u8]) {
     let mut directory = [0u32; 2520];
     let found = book::read(bytes, &mut directory);
     console::word(rt, name);
-    if found.refusal != 0 {
+    if let Some(refusal) = found.refusal {
         console::word(rt, b": refused ");
-        console::number(rt, found.refusal);
+        console::number(rt, refusal.number());
     } else {
         console::word(rt, b": rows ");
         console::number(rt, found.rows);

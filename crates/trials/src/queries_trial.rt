@@ -14,9 +14,9 @@ const BARE: [u8; 3] = [1, 0, 0];
 // What a query asks, or its refusal: the items and comparisons, the attributes named with each variable, the bytes
 // read.
 fn show_query(rt: &impl Print, q: Query) {
-    if q.refusal != 0 {
+    if let Some(refusal) = q.refusal {
         console::word(rt, b": refused ");
-        console::number(rt, q.refusal);
+        console::number(rt, refusal.number());
         console::put(rt, b'\n');
         return;
     }
@@ -40,11 +40,7 @@ fn show(rt: &impl Print, name: &[u8], book: &[u8], bytes: &[u8]) {
     console::word(rt, name);
     show_query(
         rt,
-        query::read(
-            bytes,
-            scheme,
-            scheme::first_object_sets(&found.maximal, found.maximals),
-        ),
+        query::read(bytes, scheme, scheme::first(&found.maximal, found.maximals)),
     );
 }
 

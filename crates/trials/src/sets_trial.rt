@@ -1,4 +1,6 @@
 // Both tests of containment, the arithmetic one and the plain one, on pairs of sets at the edges.
+use sets::Mask;
+
 // One line for a pair: whether s lies within t by arithmetic on the whole set, and attribute by attribute.
 fn within_line(rt: &impl Print, s: u32, t: u32) {
     console::word(rt, b"within ");
@@ -6,7 +8,7 @@ fn within_line(rt: &impl Print, s: u32, t: u32) {
     console::put(rt, b' ');
     console::number(rt, t);
     console::put(rt, b' ');
-    console::flag(rt, sets::within(s, t));
+    console::flag(rt, s.within(t));
     console::flag(rt, sets::within_each(s, t));
     console::put(rt, b'\n');
 }

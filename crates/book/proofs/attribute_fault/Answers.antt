@@ -19,11 +19,11 @@ returns-then-kind-gt3 c = first_yes ((has _ _, 6) ∷ []) (or_right (leb ATTRIBU
 pub returns-then-has : goal.returns-then-has
 unfolding fault_of checks
 returns-then-has c = let range = or_no (lt-leb ATTRIBUTES _ c.if-id-ge-ATTRIBUTES.false) (le-ltb 3 _ c.if-kind-gt3.false) in
-    first_no _ _ range (first_yes _ (tested_member _ c.has.ensures c.wide.ensures.0
+    first_no _ _ range (first_yes _ (tested_member _ c.has.ensures c.from.ensures
     c.if-has.true))
 
 pub returns : goal.returns
 unfolding fault_of checks
 returns c = let range = or_no (lt-leb ATTRIBUTES _ c.if-id-ge-ATTRIBUTES.false) (le-ltb 3 _ c.if-kind-gt3.false) in
-    let new = tested_member _ c.has.ensures c.wide.ensures.0 c.if-has.false in
+    let new = tested_member _ c.has.ensures c.from.ensures c.if-has.false in
     first_no _ _ range (first_no _ _ new first_none)

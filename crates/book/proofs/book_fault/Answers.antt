@@ -19,11 +19,11 @@ unfolding fault_of checks
 returns-in-Row c = of_variant _ c.row_fault.ensures c.in-Row.is
 
 pub returns-in-Declared : goal.returns-in-Declared
-returns-in-Declared c = of_variant _ (declared_fault _ c.maximal_fault.ensures c.long.ensures.0)
+returns-in-Declared c = of_variant _ (declared_fault _ c.maximal_fault.ensures c.from.ensures)
     c.in-Declared.is
 
 pub returns-in-Removed : goal.returns-in-Removed
-returns-in-Removed c = of_variant _ (removed_fault _ c.maximal_fault-in-Removed.ensures c.long-in-Removed.ensures.0)
+returns-in-Removed c = of_variant _ (removed_fault _ c.maximal_fault-in-Removed.ensures c.from-in-Removed.ensures)
     c.in-Removed.is
 
 pub returns-in-ComparisonTable : goal.returns-in-ComparisonTable

@@ -45,12 +45,12 @@ returns-in-Row c = with_variant _ refl c.in-Row.is
 
 pub returns-in-Declared : goal.returns-in-Declared
 unfolding declare
-returns-in-Declared c = with_variant _ (c.with_declared.ensures ∙ ap (declared_by _) c.long.ensures.0)
+returns-in-Declared c = with_variant _ (c.with_declared.ensures ∙ ap (declared_by _) c.from.ensures)
     c.in-Declared.is
 
 pub returns-in-Removed : goal.returns-in-Removed
 unfolding declare
-returns-in-Removed c = with_variant _ (c.with_removed.ensures ∙ ap (removed_by _) c.long-in-Removed.ensures.0)
+returns-in-Removed c = with_variant _ (c.with_removed.ensures ∙ ap (removed_by _) c.from-in-Removed.ensures)
     c.in-Removed.is
 
 pub returns-in-ComparisonTable : goal.returns-in-ComparisonTable

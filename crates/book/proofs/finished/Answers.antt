@@ -9,4 +9,4 @@ pub last_fault-requires : goal.last_fault-requires
 last_fault-requires c = tt
 
 pub returns : goal.returns
-returns c = finished_book _ _ c.maximal_objects-m.ensures c.last_fault.ensures
+returns c = finished_book _ _ _ c.maximal_objects-m.ensures c.last_fault.ensures

@@ -9,19 +9,19 @@ pub returns-then-n-ge8 : goal.returns-then-n-ge8
 unfolding maximal_checks
 returns-then-n-ge8 c = first_yes _ (le-leb 8 _ c.if-n-ge8.true)
 
-pub returns-then-no_objects : goal.returns-then-no_objects
+pub returns-then-is_empty : goal.returns-then-is_empty
 unfolding maximal_checks
-returns-then-no_objects c = first_no _ _ (lt-leb 8 _ c.if-n-ge8.false) (first_yes _ (tested c.no_objects.ensures c.if-no_objects.true))
+returns-then-is_empty c = first_no _ _ (lt-leb 8 _ c.if-n-ge8.false) (first_yes _ (tested c.is_empty.ensures c.if-is_empty.true))
 
-pub returns-then-not-objects_within : goal.returns-then-not-objects_within
+pub returns-then-not-within : goal.returns-then-not-within
 unfolding maximal_checks
-returns-then-not-objects_within c = let room = lt-leb 8 _ c.if-n-ge8.false in
-    let filled = tested c.no_objects.ensures c.if-no_objects.false in
-    first_no _ _ room (first_no _ _ filled (first_yes _ (tested_not c.objects_within.ensures c.if-not-objects_within.true-raw)))
+returns-then-not-within c = let room = lt-leb 8 _ c.if-n-ge8.false in
+    let filled = tested c.is_empty.ensures c.if-is_empty.false in
+    first_no _ _ room (first_no _ _ filled (first_yes _ (tested_not c.within.ensures c.if-not-within.true-raw)))
 
 pub returns : goal.returns
 unfolding maximal_checks
 returns c = let room = lt-leb 8 _ c.if-n-ge8.false in
-    let filled = tested c.no_objects.ensures c.if-no_objects.false in
-    let known = tested_not c.objects_within.ensures c.if-not-objects_within.false-raw in
+    let filled = tested c.is_empty.ensures c.if-is_empty.false in
+    let known = tested_not c.within.ensures c.if-not-within.false-raw in
     first_no _ _ room (first_no _ _ filled (first_no _ _ known first_none))

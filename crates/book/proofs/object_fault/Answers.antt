@@ -21,24 +21,24 @@ pub returns-then-count-gt6 : goal.returns-then-count-gt6
 unfolding fault_of checks
 returns-then-count-gt6 c = first_yes _ (or_right (leb OBJECTS c.args.number || is_empty c.args.set) (over_counted c.count.ensures c.if-count-gt6.true))
 
-pub returns-then-has_object : goal.returns-then-has_object
+pub returns-then-has : goal.returns-then-has
 unfolding fault_of checks
-returns-then-has_object c = let filled = or_no (lt-leb OBJECTS _ c.if-number-ge-OBJECTS.false) (tested c.is_empty.ensures c.if-is_empty.false) in
+returns-then-has c = let filled = or_no (lt-leb OBJECTS _ c.if-number-ge-OBJECTS.false) (tested c.is_empty.ensures c.if-is_empty.false) in
     let range = or_no filled (under_counted c.count.ensures c.if-count-gt6.false) in
-    first_no _ _ range (first_yes _ (tested_member _ c.has_object.ensures c.wide.ensures.0
-    c.if-has_object.true))
+    first_no _ _ range (first_yes _ (tested_member _ c.has.ensures c.from.ensures
+    c.if-has.true))
 
 pub returns-then-not-within : goal.returns-then-not-within
 unfolding fault_of checks
 returns-then-not-within c = let filled = or_no (lt-leb OBJECTS _ c.if-number-ge-OBJECTS.false) (tested c.is_empty.ensures c.if-is_empty.false) in
     let range = or_no filled (under_counted c.count.ensures c.if-count-gt6.false) in
-    let new = tested_member _ c.has_object.ensures c.wide.ensures.0 c.if-has_object.false in
+    let new = tested_member _ c.has.ensures c.from.ensures c.if-has.false in
     first_no _ _ range (first_no _ _ new (first_yes _ (tested_not c.within.ensures c.if-not-within.true-raw)))
 
 pub returns : goal.returns
 unfolding fault_of checks
 returns c = let filled = or_no (lt-leb OBJECTS _ c.if-number-ge-OBJECTS.false) (tested c.is_empty.ensures c.if-is_empty.false) in
     let range = or_no filled (under_counted c.count.ensures c.if-count-gt6.false) in
-    let new = tested_member _ c.has_object.ensures c.wide.ensures.0 c.if-has_object.false in
+    let new = tested_member _ c.has.ensures c.from.ensures c.if-has.false in
     let known = tested_not c.within.ensures c.if-not-within.false-raw in
     first_no _ _ range (first_no _ _ new (first_no _ _ known first_none))

@@ -9,11 +9,11 @@ pub returns-then-object-ge-OBJECTS : goal.returns-then-object-ge-OBJECTS
 unfolding row_checks
 returns-then-object-ge-OBJECTS c = first_yes _ (le-leb OBJECTS _ c.if-object-ge-OBJECTS.true)
 
-pub returns-then-not-has_object : goal.returns-then-not-has_object
+pub returns-then-not-has : goal.returns-then-not-has
 unfolding row_checks
-returns-then-not-has_object c = let below = lt-leb OBJECTS _ c.if-object-ge-OBJECTS.false in
-    first_no _ _ below (first_yes _ (tested_absent _ c.has_object.ensures c.wide.ensures.0
-    c.if-not-has_object.true-raw))
+returns-then-not-has c = let below = lt-leb OBJECTS _ c.if-object-ge-OBJECTS.false in
+    first_no _ _ below (first_yes _ (tested_absent _ c.has.ensures c.from.ensures
+    c.if-not-has.true-raw))
 
 pub wrong_cells-requires : goal.wrong_cells-requires
 wrong_cells-requires c = c.requires.six _
@@ -21,12 +21,12 @@ wrong_cells-requires c = c.requires.six _
 pub returns-then-wrong_cells : goal.returns-then-wrong_cells
 unfolding row_checks
 returns-then-wrong_cells c = let below = lt-leb OBJECTS _ c.if-object-ge-OBJECTS.false in
-    let known = tested_absent _ c.has_object.ensures c.wide.ensures.0 c.if-not-has_object.false-raw in
+    let known = tested_absent _ c.has.ensures c.from.ensures c.if-not-has.false-raw in
     first_no _ _ below (first_no _ _ known (first_yes _ (tested c.wrong_cells.ensures c.if-wrong_cells.true)))
 
 pub returns : goal.returns
 unfolding row_checks
 returns c = let below = lt-leb OBJECTS _ c.if-object-ge-OBJECTS.false in
-    let known = tested_absent _ c.has_object.ensures c.wide.ensures.0 c.if-not-has_object.false-raw in
+    let known = tested_absent _ c.has.ensures c.from.ensures c.if-not-has.false-raw in
     let right = tested c.wrong_cells.ensures c.if-wrong_cells.false in
     first_no _ _ below (first_no _ _ known (first_no _ _ right first_none))

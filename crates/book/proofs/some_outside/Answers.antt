@@ -1,6 +1,7 @@
 -- `book::some_outside` meets its contract. The invariant: no attribute passed has a cell outside its range
--- (`InsideSoFar`). The measure: the attributes left. Assumes nothing.
-use Prim.Native.Nat.{◌-◌}
+-- (`InsideSoFar`). Assumes nothing.
+use Prim.Native.Nat.{◌<◌}
+use Rattle.sets.specs.Sets.{ATTRIBUTES}
 use mathlib.Core.Bool.{not}
 use mathlib.Core.Path.{ap}
 use native.Mathlib.Omega.{arith}
@@ -16,20 +17,20 @@ loop-a-init c = inside_start _ _ _
 pub offset_bounds-cells-place : goal.offset_bounds-cells-place
 offset_bounds-cells-place c = let is = tested c.has.ensures c.if-has.true in
     let few = c.requires in
-    omega (arith, place_in_row _ _ few c.loop-a-test.true is c.rank-place.ensures)
+    omega (arith, place_in_row _ _ few (omega arith) is c.rank-place.ensures)
 
 pub bounds-cells-place : goal.bounds-cells-place
 bounds-cells-place c = let is = tested c.has.ensures c.if-has.true in
     let few = c.requires in
-    place_in_row _ _ few c.loop-a-test.true is c.rank-place.ensures
+    place_in_row _ _ few (omega arith) is c.rank-place.ensures
 
 pub returns-then-not-in_range : goal.returns-then-not-in_range
 returns-then-not-in_range c = let is = tested c.has.ensures c.if-has.true in
-    outside_here c.loop-a.invariant c.loop-a-test.true is c.rank-place.ensures c.in_range.ensures (ap not c.if-not-in_range.true)
+    outside_here c.loop-a.invariant (omega arith) is c.rank-place.ensures c.in_range.ensures (ap not c.if-not-in_range.true)
 
 pub loop-a-preserved : goal.loop-a-preserved
 loop-a-preserved c = let v = c.loop-a.invariant in
-    let l = c.loop-a-test.true in
+    let l : c.loop-a.a < ATTRIBUTES = omega arith in
     let is = c.has.ensures in
     elim c.if-has.branch [
       | then-has+else-not-in_range w ↦
@@ -38,4 +39,4 @@ loop-a-preserved c = let v = c.loop-a.invariant in
     ]
 
 pub returns : goal.returns
-returns c = inside_end c.loop-a.invariant c.loop-a-test.false
+returns c = inside_end c.loop-a.invariant (omega arith)

@@ -1,8 +1,6 @@
 -- `book::walk` meets its contract. The invariant: the records passed are accepted, their rows counted and stored
 -- (`Walking`). The measure: the bytes left. Assumes nothing.
-use Prim.Native.Nat.{◌-◌}
-use mathlib.Core.Path.{refl, sym, ◌∙◌}
-use mathlib.Core.Logic.{⊎_elim}
+use mathlib.Core.Path.{refl, sym}
 use native.Mathlib.Omega.{arith}
 use Rattle.records.proofs.Reader.{found_after, whole_read_at}
 use Rattle.records.proofs.Checks.{tested}
@@ -21,19 +19,19 @@ shape_of-directory-in_default c = walking_same c.loop-r.invariant
 
 pub returns-in_default : goal.returns-in_default
 returns-in_default c = let e = sym c.read-found.ensures in
-    let r = walking_unread c.loop-r.invariant _ e c.in_default.not-Found c.unread.ensures in
-    record { value = r.0; directory_after = r.1 }
+    let r = walking_unread c.loop-r.invariant _ _ e c.in_default.not-Found c.unread.ensures in
+    record { value = r.value; numbered = r.numbered; directory_after = r.directory_after }
 
-pub fault-refusal-requires : goal.fault-refusal-requires
-fault-refusal-requires c = walking_six c.loop-r.invariant
+pub fault-requires : goal.fault-requires
+fault-requires c = walking_six c.loop-r.invariant
 
-pub shape_of-directory-then-refusal-ne0 : goal.shape_of-directory-then-refusal-ne0
-shape_of-directory-then-refusal-ne0 c = walking_same c.loop-r.invariant
+pub shape_of-directory-in-Err : goal.shape_of-directory-in-Err
+shape_of-directory-in-Err c = walking_same c.loop-r.invariant
 
-pub returns-then-refusal-ne0 : goal.returns-then-refusal-ne0
-returns-then-refusal-ne0 c = let e = sym c.in-Found.ensures in
-    let r = walking_faulty c.loop-r.invariant e c.fault-refusal.ensures c.if-refusal-ne0.true in
-    record { value = r.0; directory_after = r.1 }
+pub returns-in-Err : goal.returns-in-Err
+returns-in-Err c = let e = sym c.in-Found.ensures in
+    let r = walking_faulty c.loop-r.invariant _ e c.in-Err.ensures in
+    record { value = r.value; numbered = r.numbered; directory_after = r.directory_after }
 
 pub overflow_cast-directory : goal.overflow_cast-directory
 overflow_cast-directory c = let v = c.loop-r.invariant in
@@ -62,7 +60,7 @@ overflow_add-rows c = let v = c.loop-r.invariant in
     )
 
 pub declare-scheme-requires : goal.declare-scheme-requires
-declare-scheme-requires c = sym c.fault-refusal.ensures ∙ c.if-refusal-ne0.false
+declare-scheme-requires c = sym c.in_default-fault.ensures
 
 pub loop-r-smaller-after-rows-directory : goal.loop-r-smaller-after-rows-directory
 loop-r-smaller-after-rows-directory c = let e = sym c.in-Found.ensures in
@@ -71,7 +69,7 @@ loop-r-smaller-after-rows-directory c = let e = sym c.in-Found.ensures in
 pub loop-r-preserved-after-rows-directory : goal.loop-r-preserved-after-rows-directory
 loop-r-preserved-after-rows-directory c = let v = c.loop-r.invariant in
     let e = sym c.in-Found.ensures in
-    let f = sym c.fault-refusal.ensures ∙ c.if-refusal-ne0.false in
+    let f = sym c.in_default-fault.ensures in
     let y = tested c.is_row.ensures c.if-is_row.true in
     let d = row_declares_nothing _ _ y in
     elim c.if-rows-directory.branch [
@@ -86,6 +84,6 @@ loop-r-smaller c = let e = sym c.in-Found.ensures in
 pub loop-r-preserved : goal.loop-r-preserved
 loop-r-preserved c = let v = c.loop-r.invariant in
     let e = sym c.in-Found.ensures in
-    let f = sym c.fault-refusal.ensures ∙ c.if-refusal-ne0.false in
+    let f = sym c.in_default-fault.ensures in
     let n = tested c.is_row.ensures c.if-is_row.false in
     walking_as (walking_other v e f n) refl c.declare-scheme.ensures refl

@@ -4,4 +4,4 @@ use Rattle.book.proofs.with_attribute.Goals as goal
 
 pub returns : goal.returns
 unfolding with_attribute
-returns c = cc (c.insert.ensures, c.wide.ensures.0)
+returns c = cc (c.insert.ensures, c.from.ensures)

@@ -4,4 +4,4 @@ use Rattle.book.proofs.with_object.Goals as goal
 
 pub returns : goal.returns
 unfolding with_object
-returns c = cc (c.insert_object.ensures, c.wide.ensures.0)
+returns c = cc (c.insert.ensures, c.from.ensures)

@@ -1,14 +1,9 @@
--- `printout::put_row` meets its contract. The invariant: the line is written before cell i (`Writing`). The measure:
--- the cells left.
+-- `printout::put_row` meets its contract. The invariant: the line is written before cell i (`Writing`).
 -- Assumes nothing.
-use Prim.Native.Nat.{◌-◌, ◌≤◌}
-use lib.ListN.{length, drop}
+use lib.ListN.{drop}
 use Rattle.printout.proofs.Writing.{Writing}
 use Rattle.printout.specs.Lines.{row_line}
 use Rattle.printout.proofs.put_row.Given as goal
 
 abbrev pub invariant-loop-i : goal.invariant-loop-i
-invariant-loop-i l = Writing l.at (row_line l.kinds l.row) l.initial.out l.end (row_line (drop l.i l.kinds) (drop l.i l.row)) l.out × (l.i ≤ length l.kinds)
-
-abbrev pub decreases-loop-i : goal.decreases-loop-i
-decreases-loop-i l = length l.kinds - l.i
+invariant-loop-i l = Writing l.at (row_line l.kinds l.row) l.initial.out l.end (row_line (drop l.i l.kinds) (drop l.i l.row)) l.out

@@ -1,15 +1,8 @@
--- `printout::put_rows` meets its contract. The invariant: the lines before those of the rows left are written
--- (`Writing`). The measure: the rows left.
+-- `printout::put_rows` meets its contract. The invariant: the lines before that of row i are written (`Writing`).
 -- Assumes nothing.
-use Prim.Native.Nat.{◌+◌, ◌*◌, ◌≤◌}
-use lib.ListN.{length}
 use Rattle.printout.proofs.Rows.{lines_left}
 use Rattle.printout.proofs.Writing.{Writing}
 use Rattle.printout.proofs.put_rows.Given as goal
 
-abbrev pub invariant-loop-left : goal.invariant-loop-left
-invariant-loop-left l = Writing l.at (lines_left l.kinds l.cells 0 l.rows) l.initial.out l.end (lines_left l.kinds l.cells l.from l.left) l.out
-    × (l.from + l.left * length l.kinds ≤ length l.cells)
-
-abbrev pub decreases-loop-left : goal.decreases-loop-left
-decreases-loop-left l = l.left
+abbrev pub invariant-loop-i : goal.invariant-loop-i
+invariant-loop-i l = Writing l.at (lines_left l.kinds l.cells l.rows 0) l.initial.out l.end (lines_left l.kinds l.cells l.rows l.i) l.out

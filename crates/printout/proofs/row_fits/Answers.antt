@@ -1,19 +1,17 @@
--- `printout::row_fits` meets its contract. The invariant: the cells before i are in their kinds' ranges
--- (`FitSoFar`). The measure: the cells left.
+-- `printout::row_fits` meets its contract: each cell is in its kind's range (`row_decided`).
 -- Assumes nothing.
-use Rattle.printout.proofs.Fit.{fit_start, fit_no, fit_next, fit_end}
+use mathlib.Core.Path.{◌≡◌}
+use mathlib.Core.Bool.{true}
+use mathlib.Core.Logic.{◌↔◌}
+use Prim.Native.Nat.{ℕ, ◌<◌}
+use lib.ListN.{length, get_or}
+use borrow.Author.Rules.{rules}
+use Rattle.values.specs.Values.{in_range}
+use Rattle.printout.proofs.Fit.{row_decided}
 use Rattle.printout.proofs.row_fits.Goals as goal
 
-pub loop-i-init : goal.loop-i-init
-loop-i-init c = fit_start _ _
-
-pub returns-then-not-in_range : goal.returns-then-not-in_range
-returns-then-not-in_range c = fit_no c.args.kinds.now c.args.row.now c.loop-i.invariant c.loop-i-test.true
-    c.requires c.in_range.ensures c.if-not-in_range.true
-
-pub loop-i-preserved : goal.loop-i-preserved
-loop-i-preserved c = fit_next c.args.kinds.now c.args.row.now c.loop-i.invariant c.loop-i-test.true
-    c.requires c.in_range.ensures c.if-not-in_range.false
-
 pub returns : goal.returns
-returns c = fit_end c.args.kinds.now c.args.row.now c.loop-i.invariant c.loop-i-test.false
+returns c =
+    let h : (c.all.result ≡ true) ↔ ((j : ℕ) → j < length c.args.kinds.now
+    → in_range (get_or c.args.kinds.now j 0) (get_or c.args.row.now j 0) ≡ true) = search rules in
+    row_decided c.args.kinds.now c.args.row.now c.requires h

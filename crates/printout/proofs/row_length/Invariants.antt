@@ -1,13 +1,8 @@
--- `printout::row_length` meets its contract. The invariant: `n` counts the bytes before cell i (`RowCounted`). The
--- measure: the cells left.
+-- `printout::row_length` meets its contract. The invariant: `n` counts the bytes before the next cell (`RowCounted`).
 -- Assumes nothing.
-use Prim.Native.Nat.{◌-◌}
 use lib.ListN.{length}
 use Rattle.printout.proofs.Rows.{RowCounted}
 use Rattle.printout.proofs.row_length.Given as goal
 
-abbrev pub invariant-loop-i : goal.invariant-loop-i
-invariant-loop-i l = RowCounted l.kinds l.row l.n l.i
-
-abbrev pub decreases-loop-i : goal.decreases-loop-i
-decreases-loop-i l = length l.kinds - l.i
+abbrev pub invariant-loop-kind : goal.invariant-loop-kind
+invariant-loop-kind l = RowCounted l.kinds l.row l.n (length l.yielded)

@@ -1,11 +1,7 @@
--- `printout::rows_fit` meets its contract. The invariant: the rows before those left fit (`RowsFitSoFar`). The
--- measure: the rows left.
+-- `printout::rows_fit` meets its contract. The invariant: the rows before row i fit (`RowsFitSoFar`).
 -- Assumes nothing.
 use Rattle.printout.proofs.Rows.{RowsFitSoFar}
 use Rattle.printout.proofs.rows_fit.Given as goal
 
-abbrev pub invariant-loop-left : goal.invariant-loop-left
-invariant-loop-left l = RowsFitSoFar l.kinds l.cells l.rows l.from l.left
-
-abbrev pub decreases-loop-left : goal.decreases-loop-left
-decreases-loop-left l = l.left
+abbrev pub invariant-loop-i : goal.invariant-loop-i
+invariant-loop-i l = RowsFitSoFar l.kinds l.cells l.rows l.i

@@ -20,5 +20,5 @@ answer_all-requires g c = record {
     c.read-book.ensures.value,
     all_stored c.args.bytes.now (replicate 2520 0) _ (zeros_long 2520) c.read-book.ensures.directory_after,
   );
-  bytes_value = sym (number_is c.args.bytes.now c.read-book.ensures.value) ∙ opened_good _ _ c.opening-opened.ensures.value c.if-opened.true;
+  bytes_value = sym (number_is c.args.bytes.now c.read-book.ensures.value) ∙ sym c.number.ensures ∙ opened_good _ _ c.opening-opened.ensures.value c.if-opened.true;
 }

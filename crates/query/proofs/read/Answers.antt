@@ -1,16 +1,22 @@
 -- `query::read` meets its contract: at each way out the query is that of the outcome (`Loops`). Assumes nothing.
 use Rattle.query.proofs.Loops.{query_over, query_faulty, query_refused_law, query_answered}
-use borrow.Author.Rules.{rules}
 use Rattle.query.proofs.read.Goals as goal
 
 pub returns-then-bytes-gt65536 : goal.returns-then-bytes-gt65536
-returns-then-bytes-gt65536 c = search (rules, query_over)
+returns-then-bytes-gt65536 c = let a = c.args in
+    query_over a.s a.maximal.now a.bytes.now c.if-bytes-gt65536.true c.nothing_asked.ensures
 
-pub returns-then-w-ne0 : goal.returns-then-w-ne0
-returns-then-w-ne0 c = search (rules, query_faulty)
+pub returns-in-Some : goal.returns-in-Some
+returns-in-Some c = let a = c.args in
+    let w = c.walk-w.ensures in
+    query_faulty a.s a.maximal.now a.bytes.now c.if-bytes-gt65536.false w.value w.numbered _ c.in-Some.is
 
-pub returns-then-refusal-ne0 : goal.returns-then-refusal-ne0
-returns-then-refusal-ne0 c = search (rules, query_refused_law)
+pub returns-in-Err : goal.returns-in-Err
+returns-in-Err c = let a = c.args in
+    let w = c.walk-w.ensures in
+    query_refused_law a.s a.maximal.now a.bytes.now c.if-bytes-gt65536.false w.value w.numbered c.in_default.is _ c.in-Err.ensures
 
 pub returns : goal.returns
-returns c = search (rules, query_answered)
+returns c = let a = c.args in
+    let w = c.walk-w.ensures in
+    query_answered a.s a.maximal.now a.bytes.now c.if-bytes-gt65536.false w.value w.numbered c.in_default.is c.in_default-whole_fault.ensures

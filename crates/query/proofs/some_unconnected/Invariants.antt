@@ -1,11 +1,7 @@
--- `query::some_unconnected` meets its contract. The invariant: no variable before v is unconnected (`NoneUnconnected`).
--- The measure: the variables left. Assumes nothing.
-use Prim.Native.Nat.{◌-◌}
+-- `query::some_unconnected` meets its contract. The invariant: no variable before the place is unconnected (`NoneUnconnected`).
+-- Assumes nothing.
 use Rattle.query.proofs.Loops.{NoneUnconnected}
 use Rattle.query.proofs.some_unconnected.Given as goal
 
-abbrev pub invariant-loop-v : goal.invariant-loop-v
-invariant-loop-v l = NoneUnconnected l.sets l.maximal l.attributes l.v
-
-abbrev pub decreases-loop-v : goal.decreases-loop-v
-decreases-loop-v l = 4 - l.v
+abbrev pub invariant-loop-x : goal.invariant-loop-x
+invariant-loop-x l = NoneUnconnected l.sets l.maximal l.fn.attributes l.x-index

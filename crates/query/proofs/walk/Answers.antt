@@ -1,7 +1,6 @@
 -- `query::walk` meets its contract. The invariant: the records passed are accepted, and the code has what they ask
 -- (`Walking`). The measure: the bytes left. Assumes nothing.
-use Prim.Native.Nat.{◌-◌}
-use mathlib.Core.Path.{sym, ◌∙◌}
+use mathlib.Core.Path.{sym}
 use native.Mathlib.Omega.{arith}
 use Rattle.records.proofs.Checks.{tested}
 use Rattle.records.proofs.Reader.{found_after, whole_read_at}
@@ -13,19 +12,22 @@ pub loop-r-init : goal.loop-r-init
 loop-r-init c = walking_start _ _ c.nothing_asked-asked.ensures
 
 pub returns-in_default : goal.returns-in_default
-returns-in_default c = walking_unread c.loop-r.invariant _ (sym c.read-found.ensures) c.in_default.not-Found c.unread.ensures
+returns-in_default c = let r = walking_unread c.loop-r.invariant _ _ (sym c.read-found.ensures) c.in_default.not-Found c.unread.ensures in
+    record { value = r.value; numbered = r.numbered }
 
-pub returns-then-refusal-ne0 : goal.returns-then-refusal-ne0
-returns-then-refusal-ne0 c = let e = sym c.in-Found.ensures in
-    walking_faulty c.loop-r.invariant e c.fault-refusal.ensures c.if-refusal-ne0.true
+pub returns-in-Err : goal.returns-in-Err
+returns-in-Err c = let e = sym c.in-Found.ensures in
+    let r = walking_faulty c.loop-r.invariant _ e c.in-Err.ensures in
+    record { value = r.value; numbered = r.numbered }
 
 pub returns-then-is_end : goal.returns-then-is_end
 returns-then-is_end c = let e = sym c.in-Found.ensures in
-    let f = sym c.fault-refusal.ensures ∙ c.if-refusal-ne0.false in
-    walking_last c.loop-r.invariant e f (tested c.is_end.ensures c.if-is_end.true)
+    let f = sym c.in_default-fault.ensures in
+    let r = walking_last c.loop-r.invariant e f (tested c.is_end.ensures c.if-is_end.true) in
+    record { value = r.value; numbered = r.numbered }
 
 pub with_record-asked-requires : goal.with_record-asked-requires
-with_record-asked-requires c = sym c.fault-refusal.ensures ∙ c.if-refusal-ne0.false
+with_record-asked-requires c = sym c.in_default-fault.ensures
 
 pub loop-r-smaller : goal.loop-r-smaller
 loop-r-smaller c = let e = sym c.in-Found.ensures in
@@ -33,6 +35,6 @@ loop-r-smaller c = let e = sym c.in-Found.ensures in
 
 pub loop-r-preserved : goal.loop-r-preserved
 loop-r-preserved c = let e = sym c.in-Found.ensures in
-    let f = sym c.fault-refusal.ensures ∙ c.if-refusal-ne0.false in
+    let f = sym c.in_default-fault.ensures in
     let l = tested c.is_end.ensures c.if-is_end.false in
     walking_next c.loop-r.invariant _ e f l c.with_record-asked.ensures

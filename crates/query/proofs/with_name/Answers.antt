@@ -4,4 +4,4 @@ use Rattle.query.proofs.with_name.Goals as goal
 
 pub returns : goal.returns
 unfolding with_name
-returns c = cc (c.insert.ensures, c.wide.ensures.0)
+returns c = cc (c.insert.ensures, c.from.ensures)

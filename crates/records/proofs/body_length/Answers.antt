@@ -1,16 +1,55 @@
--- `records::body_length` meets its contract: the table is that of the definition, and past it no kind has a body.
+-- `records::body_length` meets its contract: in each arm the number is that of the table, and the other numbers have no
+-- body (`bodiless`).
 -- Assumes nothing.
-use mathlib.Core.Path.{ap, sym, ◌∙◌}
-use Prim.Native.Nat.{ℕ, ◌+◌, ◌*◌}
+use mathlib.Core.Path.{sym, ap}
 use native.Mathlib.Omega.{arith}
-use lib.ListN.{get_or}
 use Rattle.records.specs.Records.{kinds, body_length}
-use Rattle.records.proofs.Records.{body_length_past}
+use Rattle.records.proofs.Records.{bodiless}
 use Rattle.records.proofs.body_length.Goals as goal
 
-pub returns-then-at-lt32 : goal.returns-then-at-lt32
+pub returns-in-1 : goal.returns-in-1
 unfolding body_length kinds
-returns-then-at-lt32 c = c.place-then-at-lt32.ensures ∙ ap (λ (i : ℕ). get_or kinds (i * 2 + 1) 0) c.place.ensures
+returns-in-1 c = ap body_length (sym c.in-1.is)
 
-pub returns-else-at-lt32 : goal.returns-else-at-lt32
-returns-else-at-lt32 c = sym (body_length_past _ (omega (arith, c.place.ensures, c.if-at-lt32.false)))
+pub returns-in-2 : goal.returns-in-2
+unfolding body_length kinds
+returns-in-2 c = ap body_length (sym c.in-2.is)
+
+pub returns-in-3 : goal.returns-in-3
+unfolding body_length kinds
+returns-in-3 c = ap body_length (sym c.in-3.is)
+
+pub returns-in-4 : goal.returns-in-4
+unfolding body_length kinds
+returns-in-4 c = ap body_length (sym c.in-4.is)
+
+pub returns-in-5 : goal.returns-in-5
+unfolding body_length kinds
+returns-in-5 c = ap body_length (sym c.in-5.is)
+
+pub returns-in-6 : goal.returns-in-6
+unfolding body_length kinds
+returns-in-6 c = ap body_length (sym c.in-6.is)
+
+pub returns-in-7 : goal.returns-in-7
+unfolding body_length kinds
+returns-in-7 c = ap body_length (sym c.in-7.is)
+
+pub returns-in-8 : goal.returns-in-8
+unfolding body_length kinds
+returns-in-8 c = ap body_length (sym c.in-8.is)
+
+pub returns-in-9 : goal.returns-in-9
+unfolding body_length kinds
+returns-in-9 c = ap body_length (sym c.in-9.is)
+
+pub returns-in-13 : goal.returns-in-13
+unfolding body_length kinds
+returns-in-13 c = ap body_length (sym c.in-13.is)
+
+pub returns-in-15 : goal.returns-in-15
+unfolding body_length kinds
+returns-in-15 c = ap body_length (sym c.in-15.is)
+
+pub returns-in_default : goal.returns-in_default
+returns-in_default c = bodiless _ (omega arith) (omega arith) (omega arith) (omega arith) (omega arith) (omega arith) (omega arith) (omega arith) (omega arith) (omega arith) (omega arith)

@@ -22,14 +22,14 @@ returns-then-s-body c = let a = c.args in
     search (rules, finds_short)
 
 pub book_record-requires : goal.book_record-requires
-book_record-requires c = (sym c.of_book.ensures ∙ c.if-of_book.true, omega arith)
+book_record-requires c = (sym c.is_of.ensures ∙ c.if-is_of.true, omega arith)
 
 pub query_record-requires : goal.query_record-requires
 query_record-requires c = let kind = finds_kind _ _ c.is_kind.ensures (ap not c.if-not-is_kind.false) in
-    (other_kind _ kind (sym c.of_book.ensures ∙ c.if-of_book.false), omega arith)
+    (other_kind _ kind (sym c.is_of.ensures ∙ c.if-is_of.false), omega arith)
 
-pub returns-then-of_book : goal.returns-then-of_book
-returns-then-of_book c = search (rules, finds_record)
+pub returns-then-is_of : goal.returns-then-is_of
+returns-then-is_of c = search (rules, finds_record)
 
-pub returns-else-of_book : goal.returns-else-of_book
-returns-else-of_book c = search (rules, finds_record)
+pub returns-else-is_of : goal.returns-else-is_of
+returns-else-is_of c = search (rules, finds_record)

@@ -1,5 +1,5 @@
 -- `scheme::family_of` meets its contract. The invariant: the array and the count are the sets of the objects below `k`
--- (`MembersSoFar`). The measure: the objects left. Assumes nothing.
+-- (`MembersSoFar`). Assumes nothing.
 use mathlib.Core.Path.{refl, sym, ◌∙◌}
 use native.Mathlib.Omega.{arith}
 use Rattle.reduction.specs.Packed.{padded}
@@ -8,29 +8,29 @@ use Rattle.scheme.proofs.Loops.{members_start, members_room, members_with, membe
 use Rattle.scheme.proofs.Loops.{members_end}
 use Rattle.scheme.proofs.Packing.{listing_packed}
 use Rattle.scheme.proofs.family_of.Goals as goal
-use Rattle.scheme.proofs.family_of.Goals.{then-has_object, else-has_object}
+use Rattle.scheme.proofs.family_of.Goals.{then-has, else-has}
 
 pub loop-k-init : goal.loop-k-init
 unfolding padded
 loop-k-init c = members_start _ _ _ _ (omega arith) refl
 
 pub offset_bounds-out-count : goal.offset_bounds-out-count
-offset_bounds-out-count c = omega (arith, members_room c.loop-k.invariant c.loop-k-test.true)
+offset_bounds-out-count c = omega (arith, members_room c.loop-k.invariant (omega arith))
 
 pub bounds-out-count : goal.bounds-out-count
-bounds-out-count c = omega (arith, members_room c.loop-k.invariant c.loop-k-test.true)
+bounds-out-count c = omega (arith, members_room c.loop-k.invariant (omega arith))
 
 pub overflow_add-count : goal.overflow_add-count
-overflow_add-count c = omega (arith, members_room c.loop-k.invariant c.loop-k-test.true)
+overflow_add-count c = omega (arith, members_room c.loop-k.invariant (omega arith))
 
 pub loop-k-preserved : goal.loop-k-preserved
-loop-k-preserved c = elim c.if-has_object.branch [
-  | then-has_object w ↦ members_with c.loop-k.invariant c.loop-k-test.true _
-      (sym c.has_object.ensures ∙ w.if-has_object.true) refl w.out-is w.count-is
-  | else-has_object w ↦ members_past c.loop-k.invariant c.loop-k-test.true
-      (sym c.has_object.ensures ∙ w.if-has_object.false) w.out-is w.count-is
+loop-k-preserved c = elim c.if-has.branch [
+  | then-has w ↦ members_with c.loop-k.invariant (omega arith) _
+      (sym c.has.ensures ∙ w.if-has.true) refl w.out-is w.count-is
+  | else-has w ↦ members_past c.loop-k.invariant (omega arith)
+      (sym c.has.ensures ∙ w.if-has.false) w.out-is w.count-is
 ]
 
 pub returns : goal.returns
 unfolding family_of
-returns c = listing_packed (members_end c.loop-k.invariant c.loop-k-test.false)
+returns c = listing_packed (members_end c.loop-k.invariant (omega arith))

@@ -5,15 +5,15 @@
 use Prim.Native.Nat.{◌-◌, ◌^◌}
 use Rattle.sets.specs.Sets.{OBJECTS}
 use Rattle.scheme.specs.Growing.{grown}
-use Rattle.scheme.specs.OfScheme.{pairs, NotJoined}
+use Rattle.scheme.specs.OfScheme.{beside, NotJoined}
 use Rattle.scheme.proofs.Growing.{rounds_repeat, round_grows}
 use Rattle.scheme.proofs.Repeating.{Repeating}
 use Rattle.scheme.proofs.grow.Given as goal
 
 abbrev pub invariant-loop-next : goal.invariant-loop-next
-invariant-loop-next l = Repeating (rounds_repeat (pairs l.n l.left l.right) l.sets l.objects) OBJECTS (round_grows (pairs l.n l.left l.right) l.sets l.objects)
-    (grown (pairs l.n l.left l.right) l.sets l.objects l.start) l.held l.next
-    × NotJoined (pairs l.n l.left l.right) l.sets l.objects l.next l.before
+invariant-loop-next l = Repeating (rounds_repeat (beside l.dependencies.left.now l.dependencies.right.now) l.objects.sets.now l.objects.declared) OBJECTS (round_grows (beside l.dependencies.left.now l.dependencies.right.now) l.objects.sets.now l.objects.declared)
+    (grown (beside l.dependencies.left.now l.dependencies.right.now) l.objects.sets.now l.objects.declared l.start) l.held l.next
+    × NotJoined (beside l.dependencies.left.now l.dependencies.right.now) l.objects.sets.now l.objects.declared l.next l.before
 
 abbrev pub decreases-loop-next : goal.decreases-loop-next
 decreases-loop-next l = 2 ^ OBJECTS - l.held

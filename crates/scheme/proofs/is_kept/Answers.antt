@@ -6,8 +6,8 @@ use Rattle.reduction.specs.Steps.{at}
 use Rattle.reduction.proofs.Loops.{keeps_empty, keeps_unless}
 use Rattle.scheme.proofs.is_kept.Goals as goal
 
-pub returns-then-no_objects : goal.returns-then-no_objects
-returns-then-no_objects c = keeps_empty c.args.list.now (length c.args.list.now) c.args.i (at c.args.list.now c.args.i) refl refl (sym c.no_objects.ensures ∙ c.if-no_objects.true)
+pub returns-then-is_empty : goal.returns-then-is_empty
+returns-then-is_empty c = keeps_empty c.args.list.now (length c.args.list.now) c.args.i (at c.args.list.now c.args.i) refl refl (sym c.is_empty.ensures ∙ c.if-is_empty.true)
 
 pub returns : goal.returns
-returns c = keeps_unless c.args.list.now (length c.args.list.now) c.args.i (at c.args.list.now c.args.i) refl refl c.goes_for_another.result (sym c.no_objects.ensures ∙ c.if-no_objects.false) c.goes_for_another.ensures
+returns c = keeps_unless c.args.list.now (length c.args.list.now) c.args.i (at c.args.list.now c.args.i) refl refl c.goes_for_another.result (sym c.is_empty.ensures ∙ c.if-is_empty.false) c.goes_for_another.ensures

@@ -1,18 +1,20 @@
--- `scheme::is_one` meets its contract. The invariant: no place before `i` holds the set (`NoneSoFar`). The measure: the
--- places left. Assumes nothing.
-use mathlib.Core.Path.{sym}
-use borrow.Author.Tests.{eq-eqb, ne_eqb}
-use Rattle.scheme.proofs.Lists.{none_start, none_found, none_next, none_end}
+-- `scheme::is_one` meets its contract: `contains` asks of each place what the definition asks (`or_is`).
+-- Assumes nothing.
+use Rattle.std.proofs.Common.{◌≡◌, ◌∙◌, ℕ, refl, sym, ap, rules, eqb}
+use Rattle.std.proofs.lemmas.List.Recursion.{or_is}
+use mathlib.Core.Bool.{Bool, ◌||◌}
+use mathlib.Core.Logic.{⊎_elim}
+use borrow.Author.Tests.{eqb-true, eq-eqb, ne_eqb}
+use Rattle.sets.proofs.Tests.{yes_or_no, yes_no}
+use Rattle.scheme.specs.MaximalObjects.{is_one}
 use Rattle.scheme.proofs.is_one.Goals as goal
 
-pub loop-i-init : goal.loop-i-init
-loop-i-init c = none_start _ _
-
-pub returns-then-list-i : goal.returns-then-list-i
-returns-then-list-i c = none_found _ c.loop-i.invariant c.loop-i-test.true (eq-eqb _ _ (sym c.if-list-i.true))
-
-pub loop-i-preserved : goal.loop-i-preserved
-loop-i-preserved c = none_next _ c.loop-i.invariant c.loop-i-test.true (ne_eqb _ _ (λ e. c.if-list-i.false (sym e)))
+eqb_turned : (s t : ℕ) → eqb s t ≡ eqb t s
+eqb_turned s t =
+    ⊎_elim (λ y. y ∙ sym (eq-eqb t s (sym (eqb-true s t y))))
+    (λ n. n ∙ sym (ne_eqb t s (λ e. yes_no (eq-eqb s t (sym e)) n))) (yes_or_no (eqb s t))
 
 pub returns : goal.returns
-returns c = none_end _ c.loop-i.invariant c.loop-i-test.false
+unfolding is_one
+returns c = or_is (is_one c.args.s) (λ x. eqb x c.args.s) refl
+    (λ x l. ap (λ (b : Bool). b || is_one c.args.s l) (eqb_turned c.args.s x)) c.args.list.now 0 _ (search rules) (search rules)

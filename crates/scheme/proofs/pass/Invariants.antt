@@ -1,11 +1,8 @@
--- `scheme::pass` meets its contract. The invariant: the dependencies from `i` on, from what is gathered, give what all
--- of them give (`PassSoFar`). The measure: the dependencies left. Assumes nothing.
-use Prim.Native.Nat.{◌-◌}
+-- `scheme::pass` meets its contract. The invariant: the sides from these on, from what is gathered, give what all of them
+-- give (`PassSoFar`). Assumes nothing.
+use lib.ListN.{length}
 use Rattle.scheme.proofs.Loops.{PassSoFar}
 use Rattle.scheme.proofs.pass.Given as goal
 
-abbrev pub invariant-loop-i : goal.invariant-loop-i
-invariant-loop-i l = PassSoFar l.n l.left l.right l.attributes l.i l.all
-
-abbrev pub decreases-loop-i : goal.decreases-loop-i
-decreases-loop-i l = l.n - l.i
+abbrev pub invariant-loop-left : goal.invariant-loop-left
+invariant-loop-left l = PassSoFar l.dependencies.left.now l.dependencies.right.now l.attributes (length l.yielded) l.all

@@ -1,13 +1,8 @@
 -- `scheme::round` meets its contract. The invariant: what is gathered is the objects below `k` that are held or join
--- (`HoldingBelow`). The measure: the objects left. Assumes nothing.
-use Prim.Native.Nat.{◌-◌}
-use Rattle.sets.specs.Sets.{OBJECTS}
-use Rattle.scheme.specs.OfScheme.{pairs}
+-- (`HoldingBelow`). Assumes nothing.
+use Rattle.scheme.specs.OfScheme.{beside}
 use Rattle.scheme.proofs.Loops.{HoldingBelow}
 use Rattle.scheme.proofs.round.Given as goal
 
 abbrev pub invariant-loop-k : goal.invariant-loop-k
-invariant-loop-k l = HoldingBelow (pairs l.n l.left l.right) l.sets l.objects l.held l.k l.next
-
-abbrev pub decreases-loop-k : goal.decreases-loop-k
-decreases-loop-k l = OBJECTS - l.k
+invariant-loop-k l = HoldingBelow (beside l.dependencies.left.now l.dependencies.right.now) l.objects.sets.now l.objects.declared l.held l.k l.next

@@ -1,5 +1,5 @@
--- `scheme::without_removed` meets its contract. The invariant: the array has what is left of the places before `i`
--- (`RemovingSoFar`). The measure: the places left. Assumes nothing.
+-- `scheme::without_removed` meets its contract. The invariant: the array has what is left of the places before that of
+-- `m` (`RemovingSoFar`). Assumes nothing.
 use mathlib.Core.Path.{refl}
 use native.Mathlib.Omega.{arith}
 use Rattle.reduction.specs.Packed.{padded}
@@ -7,21 +7,21 @@ use Rattle.scheme.proofs.ListLoops.{removing_start, removing_room, removing_kept
 use Rattle.scheme.proofs.ListLoops.{removing_end}
 use Rattle.scheme.proofs.without_removed.Goals as goal
 
-pub loop-i-init : goal.loop-i-init
+pub loop-m-init : goal.loop-m-init
 unfolding padded
-loop-i-init c = removing_start _ _ refl
+loop-m-init c = removing_start _ _ refl
 
 pub offset_bounds-out-count : goal.offset_bounds-out-count
-offset_bounds-out-count c = omega (arith, removing_room c.requires c.loop-i.invariant c.loop-i-test.true)
+offset_bounds-out-count c = omega (arith, removing_room c.requires c.loop-m.invariant (omega arith))
 
 pub bounds-out-count : goal.bounds-out-count
-bounds-out-count c = omega (arith, removing_room c.requires c.loop-i.invariant c.loop-i-test.true)
+bounds-out-count c = omega (arith, removing_room c.requires c.loop-m.invariant (omega arith))
 
 pub overflow_add-count : goal.overflow_add-count
-overflow_add-count c = omega (arith, removing_room c.requires c.loop-i.invariant c.loop-i-test.true)
+overflow_add-count c = omega (arith, removing_room c.requires c.loop-m.invariant (omega arith))
 
-pub loop-i-preserved : goal.loop-i-preserved
-loop-i-preserved c = grind (arith, removing_kept, removing_gone)
+pub loop-m-preserved : goal.loop-m-preserved
+loop-m-preserved c = grind (arith, removing_kept, removing_gone)
 
 pub returns : goal.returns
-returns c = removing_end c.loop-i.invariant c.loop-i-test.false
+returns c = removing_end c.loop-m.invariant (omega arith)

@@ -1,12 +1,7 @@
--- `scheme::without_removed` meets its contract. The invariant: the array has what is left of the places before `i`
--- (`RemovingSoFar`). The measure: the places left. Assumes nothing.
-use Prim.Native.Nat.{◌-◌}
-use lib.ListN.{length}
+-- `scheme::without_removed` meets its contract. The invariant: the array has what is left of the places before that of
+-- `m` (`RemovingSoFar`). Assumes nothing.
 use Rattle.scheme.proofs.ListLoops.{RemovingSoFar}
 use Rattle.scheme.proofs.without_removed.Given as goal
 
-abbrev pub invariant-loop-i : goal.invariant-loop-i
-invariant-loop-i l = RemovingSoFar l.list l.removed l.i l.count l.out
-
-abbrev pub decreases-loop-i : goal.decreases-loop-i
-decreases-loop-i l = length l.list - l.i
+abbrev pub invariant-loop-m : goal.invariant-loop-m
+invariant-loop-m l = RemovingSoFar l.list l.removed l.m-index l.count l.out

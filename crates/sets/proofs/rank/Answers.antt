@@ -8,10 +8,10 @@ use Rattle.sets.proofs.Sets.{single_pos}
 use Rattle.sets.proofs.Ranks.{ones_masked}
 use Rattle.sets.proofs.rank.Goals as goal
 
-pub overflow_sub-result : goal.overflow_sub-result
-overflow_sub-result c = subst (λ (x : ℕ). 1 ≤ x) (sym c.single.ensures) (single_pos c.args.k)
+pub overflow_sub-below : goal.overflow_sub-below
+overflow_sub-below c = subst (λ (x : ℕ). 1 ≤ x) (sym c.single-below.ensures) (single_pos c.args.k)
 
 pub returns : goal.returns
 unfolding ◌∩◌
-returns c = ap (λ (x : ℕ). ones (c.args.s ∩ (x - 1))) c.single.ensures
+returns c = ap (λ (x : ℕ). ones (c.args.s ∩ (x - 1))) c.single-below.ensures
     ∙ ones_masked c.args.s c.args.k

@@ -1,16 +1,9 @@
--- `sheets::put_rows` meets its contract. The invariant: the lines before those of the rows left are written
--- (`Writing`).
--- The measure: the rows left.
+-- `sheets::put_rows` meets its contract. The invariant: the lines before that of row i are written (`Writing`).
 -- Assumes nothing.
-use lib.ListN.{length}
-use Prim.Native.Nat.{◌+◌, ◌*◌, ◌≤◌}
 use Rattle.sheets.proofs.Putting.{lines_left}
 use Rattle.printout.proofs.Writing.{Writing}
 use Rattle.sheets.proofs.put_rows.Given as goal
 
-abbrev pub invariant-loop-left : goal.invariant-loop-left
-invariant-loop-left l = Writing l.at (lines_left l.kinds l.cells l.start
-    l.rows) l.initial.out l.end (lines_left l.kinds l.cells l.from l.left) l.out × (l.from + l.left * length l.kinds ≤ length l.cells)
-
-abbrev pub decreases-loop-left : goal.decreases-loop-left
-decreases-loop-left l = l.left
+abbrev pub invariant-loop-i : goal.invariant-loop-i
+invariant-loop-i l = Writing l.at (lines_left l.kinds l.cells l.rows 0) l.initial.out l.end
+    (lines_left l.kinds l.cells l.rows l.i) l.out

@@ -5,7 +5,6 @@
 -- Assumes nothing.
 use Prim.Native.Nat.{◌+◌, ◌-◌, ◌*◌}
 use lib.ListN.{length}
-use Rattle.text.proofs.Chains.{left}
 use Rattle.text.proofs.Parsers.{OrKeeps, AndKeeps}
 use Rattle.text.proofs.+and_at_not_at_or_at_primary_at.Given as goal
 
@@ -21,14 +20,14 @@ decreases-not_at l = 4 * (length l.s.now - l.at) + 2
 abbrev pub decreases-primary_at : goal.decreases-primary_at
 decreases-primary_at l = 4 * (length l.s.now - l.at) + 1
 
-abbrev pub invariant-or_at-loop-c : goal.invariant-or_at-loop-c
-invariant-or_at-loop-c l = OrKeeps l.s l.at l.to l.initial.out l.initial.c l.out l.c
+abbrev pub invariant-or_at-loop-next : goal.invariant-or_at-loop-next
+invariant-or_at-loop-next l = OrKeeps l.s l.at l.to l.initial.out l.initial.c l.out l.c
 
-abbrev pub decreases-or_at-loop-c : goal.decreases-or_at-loop-c
-decreases-or_at-loop-c l = left l.s l.c
+abbrev pub decreases-or_at-loop-next : goal.decreases-or_at-loop-next
+decreases-or_at-loop-next l = length l.s - l.c.next
 
-abbrev pub invariant-and_at-loop-c : goal.invariant-and_at-loop-c
-invariant-and_at-loop-c l = AndKeeps l.s l.at l.to l.initial.out l.initial.c l.out l.c
+abbrev pub invariant-and_at-loop-next : goal.invariant-and_at-loop-next
+invariant-and_at-loop-next l = AndKeeps l.s l.at l.to l.initial.out l.initial.c l.out l.c
 
-abbrev pub decreases-and_at-loop-c : goal.decreases-and_at-loop-c
-decreases-and_at-loop-c l = left l.s l.c
+abbrev pub decreases-and_at-loop-next : goal.decreases-and_at-loop-next
+decreases-and_at-loop-next l = length l.s - l.c.next

@@ -4,8 +4,8 @@ use Rattle.text.proofs.Scanning.{between_below, between_there}
 use borrow.Author.Rules.{rules}
 use Rattle.text.proofs.between.Goals as goal
 
-pub returns-then-b-first : goal.returns-then-b-first
-returns-then-b-first c = search (rules, between_below)
+pub returns-then-first-b : goal.returns-then-first-b
+returns-then-first-b c = search (rules, between_there)
 
-pub returns-else-b-first : goal.returns-else-b-first
-returns-else-b-first c = search (rules, between_there)
+pub returns-else-first-b : goal.returns-else-first-b
+returns-else-first-b c = search (rules, between_below)

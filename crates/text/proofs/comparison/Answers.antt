@@ -4,23 +4,22 @@ use Rattle.text.proofs.Parsers.{comparison_fails, comparison_room, comparison_do
 use Rattle.text.proofs.Chains.{shows_same}
 use Rattle.text.proofs.comparison.Goals as goal
 
-pub returns-then-not-x : goal.returns-then-not-x
-returns-then-not-x c =
-    comparison_fails c.args.s.now c.args.at c.args.to c.args.out.now _ c.comparison_at-x.ensures _ c.nothing.ensures
-    c.if-not-x.true
+pub returns-in_err-x : goal.returns-in_err-x
+returns-in_err-x c =
+    rw c.from_residual.ensures
+    (comparison_fails c.args.s.now c.args.at c.args.to c.args.out.now c.in_err-x.ensures)
 
 pub put_comparison-end-requires : goal.put_comparison-end-requires
 put_comparison-end-requires c =
-    comparison_room c.args.s.now c.args.at c.args.to c.args.out.now _ c.comparison_at-x.ensures c.if-not-x.false
-    c.requires.1
+    comparison_room c.args.s.now c.args.at c.args.to c.args.out.now _ c.in_ok-x.ensures c.requires.1
 
 pub shape_of-out : goal.shape_of-out
 shape_of-out c =
     shows_same _ _ _ _ _ _ _ (comparison_done c.args.s.now c.args.at c.args.to c.args.out.now _
-    c.comparison_at-x.ensures c.if-not-x.false c.requires.1 _ _ c.put_comparison-end.ensures.value
+    c.in_ok-x.ensures c.requires.1 _ _ c.put_comparison-end.ensures.value
     c.put_comparison-end.ensures.out_after).shown c.requires.1
 
 pub returns : goal.returns
 returns c =
-    comparison_done c.args.s.now c.args.at c.args.to c.args.out.now _ c.comparison_at-x.ensures c.if-not-x.false
+    comparison_done c.args.s.now c.args.at c.args.to c.args.out.now _ c.in_ok-x.ensures
     c.requires.1 _ _ c.put_comparison-end.ensures.value c.put_comparison-end.ensures.out_after

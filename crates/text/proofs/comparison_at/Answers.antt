@@ -1,36 +1,31 @@
 -- `text::comparison_at` meets its contract. Three tokens, each of the sort that the grammar asks (`Comparing`).
 -- Assumes nothing.
-use Rattle.text.proofs.Comparing.{third_constant}
 use Rattle.text.proofs.Comparing.{first_fails, mid_inside, second_fails, late_inside, third_fails, third_item}
+use Rattle.text.proofs.Comparing.{third_constant}
 use Rattle.text.proofs.comparison_at.Goals as goal
 
 pub returns-in_default : goal.returns-in_default
-returns-in_default c = first_fails _ _ _ c.token_at-first.ensures _ c.no_comparison.ensures c.in_default.not-ItemAt
+returns-in_default c = first_fails _ _ c.token_at.ensures c.in_default.not-ItemAt
 
-pub token_at-second-requires : goal.token_at-second-requires
-token_at-second-requires c = mid_inside _ _ _ c.token_at-first.ensures _ _ _ c.in-ItemAt.is
+pub token_at-requires-2 : goal.token_at-requires-2
+token_at-requires-2 c = mid_inside _ _ _ _ _ c.in-ItemAt.ensures
 
-pub returns-in_default-second : goal.returns-in_default-second
-returns-in_default-second c =
-    second_fails _ _ _ c.token_at-first.ensures _ _ _ c.in-ItemAt.is _ c.token_at-second.ensures _
-    c.no_comparison-in_default-second.ensures c.in_default-second.not-OperatorAt
+pub returns-in_default-token_at : goal.returns-in_default-token_at
+returns-in_default-token_at c =
+    second_fails _ _ _ _ _ c.in-ItemAt.ensures c.token_at-2.ensures c.in_default-token_at.not-OperatorAt
 
-pub token_at-third-requires : goal.token_at-third-requires
-token_at-third-requires c =
-    late_inside _ _ _ c.token_at-first.ensures _ _ _ c.in-ItemAt.is _ c.token_at-second.ensures _ _ c.in-OperatorAt.is
+pub token_at-requires-3 : goal.token_at-requires-3
+token_at-requires-3 c = late_inside _ _ _ _ _ c.in-ItemAt.ensures _ _ c.in-OperatorAt.ensures
 
-pub returns-in-ItemAt-third : goal.returns-in-ItemAt-third
-returns-in-ItemAt-third c =
-    third_item _ _ _ c.token_at-first.ensures _ _ _ c.in-ItemAt.is _ c.token_at-second.ensures _ _ c.in-OperatorAt.is
-    _ c.token_at-third.ensures _ _ _ c.in-ItemAt-third.is
+pub returns-in-ItemAt-token_at : goal.returns-in-ItemAt-token_at
+returns-in-ItemAt-token_at c =
+    third_item _ _ _ _ _ c.in-ItemAt.ensures _ _ c.in-OperatorAt.ensures _ _ _ c.in-ItemAt-token_at.ensures
 
 pub returns-in-NumberAt : goal.returns-in-NumberAt
 returns-in-NumberAt c =
-    third_constant _ _ _ c.token_at-first.ensures _ _ _ c.in-ItemAt.is _ c.token_at-second.ensures _ _
-    c.in-OperatorAt.is _ c.token_at-third.ensures _ _ _ _ c.in-NumberAt.is c.sign_word.ensures
+    third_constant _ _ _ _ _ c.in-ItemAt.ensures _ _ c.in-OperatorAt.ensures _ _ _ c.in-NumberAt.ensures
 
-pub returns-in_default-third : goal.returns-in_default-third
-returns-in_default-third c =
-    third_fails _ _ _ c.token_at-first.ensures _ _ _ c.in-ItemAt.is _ c.token_at-second.ensures _ _ c.in-OperatorAt.is
-    _ c.token_at-third.ensures _ c.no_comparison-in_default-third.ensures c.in_default-third.not-ItemAt
-    c.in_default-third.not-NumberAt
+pub returns-in_default-token_at-2 : goal.returns-in_default-token_at-2
+returns-in_default-token_at-2 c =
+    third_fails _ _ _ _ _ c.in-ItemAt.ensures _ _ c.in-OperatorAt.ensures c.token_at-3.ensures
+    c.in_default-token_at-2.not-ItemAt c.in_default-token_at-2.not-NumberAt

@@ -1,21 +1,16 @@
--- `text::magnitude` meets its contract. The invariant: the value so far and the digits left give the whole, up to the bound (`Valuing`). The measure: the
--- digits left.
+-- `text::magnitude` meets its contract. The value so far and the digits left give the whole, up to the bound (`Valuing`).
 -- Assumes nothing.
-use Rattle.text.proofs.Scanning.{valuing_start, valuing_times, valuing_fits, valuing_next, valuing_ends}
+use Rattle.text.proofs.Scanning.{valuing_start, valuing_next, valuing_ends}
+use native.Mathlib.Omega.{arith}
 use borrow.Author.Rules.{rules}
 use Rattle.text.proofs.magnitude.Goals as goal
 
-pub loop-i-init : goal.loop-i-init
-loop-i-init c = search (rules, valuing_start)
+pub loop-b-init : goal.loop-b-init
+loop-b-init c = valuing_start _
 
-pub overflow_mul-m : goal.overflow_mul-m
-overflow_mul-m c = search (rules, valuing_times)
-
-pub overflow_add-m : goal.overflow_add-m
-overflow_add-m c = search (rules, valuing_fits)
-
-pub loop-i-preserved : goal.loop-i-preserved
-loop-i-preserved c = search (rules, valuing_next)
+pub loop-b-preserved : goal.loop-b-preserved
+loop-b-preserved c =
+    valuing_next _ _ _ c.loop-b.invariant (omega arith) c.above.result _ (search rules) (search rules)
 
 pub returns : goal.returns
-returns c = search (rules, valuing_ends)
+returns c = valuing_ends _ _ _ c.loop-b.invariant (omega arith)

@@ -1,18 +1,21 @@
--- `text::run_end` meets its contract. The invariant: what is left of the run gives its end (`Running`). The measure:
--- the bytes left.
+-- `text::run_end` meets its contract. As many bytes as pass from there on are the run (`run_counts`).
 -- Assumes nothing.
-use Rattle.text.proofs.Scanning.{running_start, running_next, running_stops, running_ends}
-use borrow.Author.Rules.{rules}
+use mathlib.Core.Path.{ap}
+use native.Mathlib.Omega.{arith}
+use lib.ListN.{length, length-drop}
+use Rattle.text.proofs.Scanning.{rest_whole, run_counts}
 use Rattle.text.proofs.run_end.Goals as goal
 
-pub loop-i-init : goal.loop-i-init
-loop-i-init c = search (rules, running_start)
-
-pub returns-then-not-between : goal.returns-then-not-between
-returns-then-not-between c = record { value = search (rules, running_stops); inside = search rules }
-
-pub loop-i-preserved : goal.loop-i-preserved
-loop-i-preserved c = search (rules, running_next)
-
 pub returns : goal.returns
-returns c = record { value = search (rules, running_ends); inside = search rules }
+returns c = record {
+  value = omega (
+    arith,
+    run_counts c.args.first c.args.last c.args.s.now c.args.at c.run_length.ensures.value,
+  );
+  inside = omega (
+    arith,
+    c.run_length.ensures.within,
+    ap length (rest_whole c.args.s.now c.args.at),
+    length-drop c.args.at c.args.s.now,
+  );
+}

@@ -7,5 +7,5 @@ use Rattle.text.proofs.text_end.Goals as goal
 pub returns-then-is_end : goal.returns-then-is_end
 returns-then-is_end c = text_if_yes _ _ (sym c.is_end.ensures ∙ c.if-is_end.true)
 
-pub returns : goal.returns
-returns c = text_if_no _ _ (sym c.is_end.ensures ∙ c.if-is_end.false) c.no_text.ensures
+pub returns-else-is_end : goal.returns-else-is_end
+returns-else-is_end c = text_if_no _ _ (sym c.is_end.ensures ∙ c.if-is_end.false)

@@ -1,30 +1,34 @@
 -- `text::token_at` meets its contract. Behind the spaces, by the first byte (`Finding`).
 -- Assumes nothing.
-use Rattle.text.proofs.Finding.{token_end, token_capital, token_dotted, token_small, token_digit, token_minus}
-use Rattle.text.proofs.Finding.{token_other, dot_inside}
+use Rattle.text.proofs.Finding.{token_end, at_capital, at_dotted, at_digit, at_minus, at_other, dot_inside}
+use Rattle.text.proofs.token_at.Goals.{in_default-b-via-then-b-lt48, in_default-b-via-else-b-lt48+else-b-lt58+then-b-lt65, in_default-b-via-else-b-lt48+else-b-lt58+else-b-lt65+else-b-lt91+then-b-lt97, in_default-b-via-in-97-to-122+else-byte_at-eq46, in_default-b-via-else-b-lt48+else-b-lt58+else-b-lt65+else-b-lt91+else-b-lt97+else-b-lt123}
 use borrow.Author.Rules.{rules}
 use Rattle.text.proofs.token_at.Goals as goal
 
-pub returns-then-start-s : goal.returns-then-start-s
-returns-then-start-s c = search (rules, token_end)
+pub returns-in_default : goal.returns-in_default
+returns-in_default c = search (rules, token_end)
 
-pub returns-then-between : goal.returns-then-between
-returns-then-between c = search (rules, token_capital)
+pub returns-in-65-to-90 : goal.returns-in-65-to-90
+returns-in-65-to-90 c = search (rules, at_capital)
 
-pub item-requires-then-byte_at-eq46 : goal.item-requires-then-byte_at-eq46
-item-requires-then-byte_at-eq46 c = search (rules, dot_inside)
+pub item-requires-in-97-to-122 : goal.item-requires-in-97-to-122
+item-requires-in-97-to-122 c = search (rules, dot_inside)
 
-pub returns-then-byte_at-eq46 : goal.returns-then-byte_at-eq46
-returns-then-byte_at-eq46 c = search (rules, token_dotted)
+pub returns-in-97-to-122 : goal.returns-in-97-to-122
+returns-in-97-to-122 c = search (rules, at_dotted)
 
-pub returns-then-between-2 : goal.returns-then-between-2
-returns-then-between-2 c = search (rules, token_small)
+pub returns-in-48-to-57 : goal.returns-in-48-to-57
+returns-in-48-to-57 c = search (rules, at_digit)
 
-pub returns-then-between-3 : goal.returns-then-between-3
-returns-then-between-3 c = search (rules, token_digit)
+pub returns-in-45 : goal.returns-in-45
+returns-in-45 c = search (rules, at_minus)
 
-pub returns-then-b-eq45 : goal.returns-then-b-eq45
-returns-then-b-eq45 c = search (rules, token_minus)
-
-pub returns : goal.returns
-returns c = search (rules, token_other)
+pub returns-in_default-b : goal.returns-in_default-b
+returns-in_default-b c =
+    elim c.in_default-b.branch [
+      | in_default-b-via-then-b-lt48 w ↦ search (rules, at_other)
+      | in_default-b-via-else-b-lt48+else-b-lt58+then-b-lt65 w ↦ search (rules, at_other)
+      | in_default-b-via-else-b-lt48+else-b-lt58+else-b-lt65+else-b-lt91+then-b-lt97 w ↦ search (rules, at_other)
+      | in_default-b-via-in-97-to-122+else-byte_at-eq46 w ↦ search (rules, at_other)
+      | in_default-b-via-else-b-lt48+else-b-lt58+else-b-lt65+else-b-lt91+else-b-lt97+else-b-lt123 w ↦ search (rules, at_other)
+    ]

@@ -1,0 +1,2 @@
+-- The proofs of `refusals`. Assumes nothing.
+pub mod Numbers

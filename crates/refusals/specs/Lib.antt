@@ -1,0 +1,2 @@
+-- The definitions of `refusals`. Assumes nothing.
+pub mod Refusals

@@ -1,0 +1,9 @@
+-- `<u32 as Mask>::difference` meets its contract: it is the definition.
+-- Assumes nothing.
+use mathlib.Core.Path.{refl}
+use Rattle.sets.specs.Sets.{◌∖◌}
+use Rattle.sets.proofs.U32Mask.difference.Goals as goal
+
+pub returns : goal.returns
+unfolding ◌∖◌
+returns c = refl

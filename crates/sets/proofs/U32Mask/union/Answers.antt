@@ -1,0 +1,9 @@
+-- `<u32 as Mask>::union` meets its contract: it is the definition.
+-- Assumes nothing.
+use mathlib.Core.Path.{refl}
+use Rattle.sets.specs.Sets.{◌∪◌}
+use Rattle.sets.proofs.U32Mask.union.Goals as goal
+
+pub returns : goal.returns
+unfolding ◌∪◌
+returns c = refl

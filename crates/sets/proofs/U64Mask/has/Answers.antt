@@ -1,0 +1,9 @@
+-- `<u64 as Mask>::has` meets its contract: it is the definition.
+-- Assumes nothing.
+use mathlib.Core.Path.{refl}
+use Rattle.sets.specs.Sets.{bit, has}
+use Rattle.sets.proofs.U64Mask.has.Goals as goal
+
+pub returns : goal.returns
+unfolding bit has
+returns c = refl

@@ -1,9 +1,0 @@
--- `sets::has_object` meets its contract: it is the definition.
--- Assumes nothing.
-use mathlib.Core.Path.{refl}
-use Rattle.sets.specs.Sets.{bit, has}
-use Rattle.sets.proofs.has_object.Goals as goal
-
-pub returns : goal.returns
-unfolding bit has
-returns c = refl

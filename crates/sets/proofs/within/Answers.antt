@@ -1,9 +1,0 @@
--- `sets::within` meets its contract: it is the definition.
--- Assumes nothing.
-use mathlib.Core.Path.{refl}
-use Rattle.sets.specs.Sets.{within}
-use Rattle.sets.proofs.within.Goals as goal
-
-pub returns : goal.returns
-unfolding within
-returns c = refl
