@@ -151,6 +151,7 @@ use Rattle.relation.proofs.Examples.{leads_and_no_trips_disagree, apart_disagree
 use Rattle.relation.proofs.Examples.{own_gap_agrees, own_gap_none_missing, own_gap_equal}
 use Rattle.query.proofs.Theorems as Queries
 use Rattle.query.proofs.Theorems.{records_ask, attributes_are, containing_is_the_list, accepted_fits}
+use Rattle.query.proofs.Theorems.{refusal_numbered as query-refusal-numbered}
 use Rattle.query.proofs.Examples.{trials_hold as query-trials-hold}
 use Rattle.sorted.proofs.Theorems.{rows_ordered, determined_by_members, row_more, rows_more, rows_sorted}
 use Rattle.sorted.proofs.Theorems.{ascending_by_first_columns, next_same_law}
@@ -163,6 +164,7 @@ use Rattle.connection.proofs.Theorems.{names_in_range, connection_listed, answer
 use Rattle.connection.proofs.Theorems.{answer_in_range, comparison_means, condition_means}
 use Rattle.connection.proofs.Theorems.{combinations_counted, combinations_listed, combinations_ordered}
 use Rattle.connection.proofs.Theorems.{one_kept_set, answer_number_means, demand1, promise_e}
+use Rattle.connection.proofs.Theorems.{refusal_numbered as connection-refusal-numbered}
 use Rattle.connection.proofs.Examples.{outcomes_hold, rows_hold, order_holds}
 use Rattle.choices.proofs.Theorems.{same_rows_either_way}
 use Rattle.printout.proofs.Theorems.{in_decimal, cells_read, texts_read, fit_tested, text_printed, answer_printed_law}
