@@ -3,7 +3,6 @@
 #![tactic(auto)]
 
 ghost use Rattle.std.specs.Prelude.{◌≡◌};
-ghost use Rattle.refusals.specs.Refusals.{number_of};
 ghost use Rattle.connection.specs.Answering.{refused};
 
 use refusals::Refusal;
@@ -18,12 +17,13 @@ pub struct Answer {
     pub read: usize,
 }
 
-// A refusal: why, no rows, the serial unchanged, no bytes read.
-pub fn refused(refusal: Refusal, serial: u32) -> Answer
-    ensures { result ≡ refused (number_of refusal) serial }
+// A refusal by its number: why, no rows, the serial unchanged, no bytes read.
+#[tactic(auto, unfolding(crate::specs::Answering::refused, refusals::specs::Refusals::refusal_of_number, refusals::specs::Refusals::refusals))]
+pub fn refused(number: u8, serial: u32) -> Answer
+    ensures { result ≡ refused number serial }
 {
     Answer {
-        refusal: Some(refusal),
+        refusal: Refusal::from_number(u32::from(number)),
         rows: 0,
         serial,
         read: 0,

@@ -1,5 +1,5 @@
 -- Bytes written in their place, one text behind the other.
--- In order: texts written, a text of which a part is written, numbers, digits counted, cells.
+-- In order: texts written, a text of which a part is written, bytes of a text, numbers, digits counted, cells.
 -- Assumes nothing.
 use mathlib.Core.Path.{◌≡◌, refl, sym, ap, ap₂, ◌∙◌}
 use mathlib.Core.Bool.{Bool, true, false}
@@ -8,8 +8,8 @@ use Prim.Native.Nat.{ℕ, ◌+◌, ◌-◌, ◌/◌, ◌%◌, ◌^◌, ◌≤◌
 use native.Mathlib.Nat.{add-zero}
 use native.Mathlib.Numerals.{add-one}
 use native.Mathlib.Omega.{arith}
-use lib.ListN.{length, take, drop, set, length-append, length-drop, take-append-drop}
-use lib.Seq.{take_at, drop_at, length-take-le, drop-drop, set_split}
+use lib.ListN.{length, take, drop, set, length-append, length-drop, take-append-drop, get_or}
+use lib.Seq.{take_at, drop_at, length-take-le, drop-drop, set_split, drop-cons}
 use Rattle.values.specs.Values.{missing}
 use Rattle.printout.specs.Decimal.{decimal, value_text, cell_text}
 use Rattle.printout.specs.Printing.{written}
@@ -135,6 +135,16 @@ module _ (from : ℕ) (text e : List ℕ) where
     writing_end v =
         let all = sym (append-nil v.done) ∙ v.whole in
         (v.here ∙ ap (λ (l : List ℕ). from + length l) all, v.so_far ∙ ap (λ (l : List ℕ). written from l e) all)
+
+-- ---- bytes of a text
+
+-- a byte more
+pub text_next : (from : ℕ) (text e : List ℕ) {i at : ℕ} {bytes : List ℕ} → Writing from text e at (drop i text) bytes
+    → {to b : ℕ} {out : List ℕ} → i < length text → b ≡ get_or text i 0 → to ≡ at + 1
+    → out ≡ written at (b ∷ []) bytes → Writing from text e to (drop (i + 1) text) out
+text_next from text e {i = i} v {b = b} h s p w =
+    writing_next from text e v (b ∷ []) (drop (i + 1) text)
+    (drop-cons text i 0 h ∙ ap₂ (λ (x n : ℕ). x ∷ drop n text) (sym s) (sym (add-one i))) p w
 
 -- ---- numbers written
 

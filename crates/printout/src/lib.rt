@@ -61,8 +61,10 @@ fn put_text(out: &mut [u8], at: usize, text: &[u8]) -> usize
     ensures value { result ≡ at + length text.now }
     ensures out_after { out.new ≡ written at text.now out.old }
 {
-    let end = at + text.len();
-    out[at..end].copy_from_slice(text);
+    let mut end = at;
+    for byte in text {
+        end = put_byte(out, end, *byte);
+    }
     end
 }
 

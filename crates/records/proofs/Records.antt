@@ -398,22 +398,31 @@ unfolding record_of bodies
 comparison_table_at s k b names lengths angles dates e e0 e1 e2 e3 = simp (e, e0, e1, e2, e3, field_drop, add-zero)
 
 -- the masks of a table, byte by byte
-pub masks_are : (names lengths angles dates : ℕ) {n l a d : List ℕ} → n ≡ to_le_bytes w32 names
-    → l ≡ to_le_bytes w32 lengths → a ≡ to_le_bytes w32 angles → d ≡ to_le_bytes w32 dates
-    → get_or n 0 0 ∷ get_or n 1 0 ∷ get_or n 2 0 ∷ get_or n 3 0
-    ∷ get_or l 0 0 ∷ get_or l 1 0 ∷ get_or l 2 0 ∷ get_or l 3 0
-    ∷ get_or a 0 0 ∷ get_or a 1 0 ∷ get_or a 2 0 ∷ get_or a 3 0
-    ∷ get_or d 0 0 ∷ get_or d 1 0 ∷ get_or d 2 0 ∷ get_or d 3 0 ∷ [] ≡ masks_of names lengths angles dates
+pub masks_are : (names lengths angles dates : ℕ) {n l a d : List ℕ}
+    {m0 m1 m2 m3 m4 m5 m6 m7 m8 m9 m10 m11 m12 m13 m14 m15 : ℕ}
+    → n ≡ to_le_bytes w32 names → l ≡ to_le_bytes w32 lengths → a ≡ to_le_bytes w32 angles → d ≡ to_le_bytes w32 dates
+    → m0 ≡ get_or n 0 0 → m1 ≡ get_or n 1 0 → m2 ≡ get_or n 2 0 → m3 ≡ get_or n 3 0
+    → m4 ≡ get_or l 0 0 → m5 ≡ get_or l 1 0 → m6 ≡ get_or l 2 0 → m7 ≡ get_or l 3 0
+    → m8 ≡ get_or a 0 0 → m9 ≡ get_or a 1 0 → m10 ≡ get_or a 2 0 → m11 ≡ get_or a 3 0
+    → m12 ≡ get_or d 0 0 → m13 ≡ get_or d 1 0 → m14 ≡ get_or d 2 0 → m15 ≡ get_or d 3 0
+    → m0 ∷ m1 ∷ m2 ∷ m3 ∷ m4 ∷ m5 ∷ m6 ∷ m7 ∷ m8 ∷ m9 ∷ m10 ∷ m11
+    ∷ m12 ∷ m13 ∷ m14 ∷ m15 ∷ [] ≡ masks_of names lengths angles dates
 unfolding bytes
-masks_are names lengths angles dates {n} {l} {a} {d} e0 e1 e2 e3 =
+masks_are names lengths angles dates {n} {l} {a} {d} e0 e1 e2 e3 f0 f1 f2 f3 f4 f5 f6 f7 f8 f9 f10 f11 f12 f13 f14 f15 =
     let n4 : n ≡ bytes 4 names = e0 ∙ bytes_four names in
     let l4 : l ≡ bytes 4 lengths = e1 ∙ bytes_four lengths in
     let a4 : a ≡ bytes 4 angles = e2 ∙ bytes_four angles in
     let d4 : d ≡ bytes 4 dates = e3 ∙ bytes_four dates in
-    λ i. get_or (n4 i) 0 0 ∷ get_or (n4 i) 1 0 ∷ get_or (n4 i) 2 0 ∷ get_or (n4 i) 3 0
+    let places : get_or n 0 0 ∷ get_or n 1 0 ∷ get_or n 2 0 ∷ get_or n 3 0
+    ∷ get_or l 0 0 ∷ get_or l 1 0 ∷ get_or l 2 0 ∷ get_or l 3 0
+    ∷ get_or a 0 0 ∷ get_or a 1 0 ∷ get_or a 2 0 ∷ get_or a 3 0
+    ∷ get_or d 0 0 ∷ get_or d 1 0 ∷ get_or d 2 0 ∷ get_or d 3 0 ∷ [] ≡ masks_of names lengths angles dates
+    = λ i. get_or (n4 i) 0 0 ∷ get_or (n4 i) 1 0 ∷ get_or (n4 i) 2 0 ∷ get_or (n4 i) 3 0
     ∷ get_or (l4 i) 0 0 ∷ get_or (l4 i) 1 0 ∷ get_or (l4 i) 2 0 ∷ get_or (l4 i) 3 0
     ∷ get_or (a4 i) 0 0 ∷ get_or (a4 i) 1 0 ∷ get_or (a4 i) 2 0 ∷ get_or (a4 i) 3 0
-    ∷ get_or (d4 i) 0 0 ∷ get_or (d4 i) 1 0 ∷ get_or (d4 i) 2 0 ∷ get_or (d4 i) 3 0 ∷ []
+    ∷ get_or (d4 i) 0 0 ∷ get_or (d4 i) 1 0 ∷ get_or (d4 i) 2 0 ∷ get_or (d4 i) 3 0 ∷ [] in
+    (λ i. f0 i ∷ f1 i ∷ f2 i ∷ f3 i ∷ f4 i ∷ f5 i ∷ f6 i ∷ f7 i ∷ f8 i ∷ f9 i ∷ f10 i ∷ f11 i
+    ∷ f12 i ∷ f13 i ∷ f14 i ∷ f15 i ∷ []) ∙ places
 
 pub only_declared_at : (s : List ℕ) (k b : ℕ) → k ≡ 14 → OfBook OnlyDeclared ≡ record_of k (drop b s)
 unfolding record_of bodies

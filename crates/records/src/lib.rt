@@ -150,6 +150,7 @@ fn whose(kind: u8) -> Option<Owner>
 }
 
 // How many bytes the body of a kind has, the kind byte not counted.
+#[tactic(auto, unfolding(crate::specs::Records::body_length, crate::specs::Records::kinds))]
 pub fn body_length(kind: u8) -> usize
     ensures { result ≡ body_length kind }
 {

@@ -28,7 +28,7 @@ use Rattle.scheme.proofs.Loops.{length_given}
 -- ---- the sides up to a count
 
 -- the sides up to a count, each left one with the right one beside it, are the dependencies of that count
-beside_taken : (n : ℕ) (ls rs : List ℕ) → beside (take n ls) (take n rs) ≡ pairs n ls rs
+pub beside_taken : (n : ℕ) (ls rs : List ℕ) → beside (take n ls) (take n rs) ≡ pairs n ls rs
 unfolding pairs
 beside_taken zero ls rs = refl
 beside_taken (suc n) [] rs = refl

@@ -80,10 +80,11 @@ pub struct Objects<'a> {
 fn pass(dependencies: Dependencies<'_>, attributes: AttributeSet) -> AttributeSet
     ensures { result ≡ pass (stated dependencies.entry) attributes }
 {
+    let Dependencies { left, right } = dependencies;
     let mut all = attributes;
-    for (left, right) in dependencies.left.iter().zip(dependencies.right) {
-        if left.within(all) {
-            all = all.union(*right);
+    for i in 0..left.len().min(right.len()) {
+        if left[i].within(all) {
+            all = all.union(right[i]);
         }
     }
     all

@@ -138,7 +138,7 @@ no_operand (found (operator o) mid) h k = refl
 no_operand (found (item i) mid) h k = absurd (h _ _ _ refl)
 no_operand (found (constant (number minus digits)) mid) h k = absurd (k _ _ _ refl)
 
-lettered : (v : Variable) → letter_word (code_letter v) ≡ variable_number v
+pub lettered : (v : Variable) → letter_word (code_letter v) ≡ variable_number v
 unfolding code_letter letter_word variable_number
 lettered blank = refl
 lettered (letter b) = refl
@@ -147,7 +147,7 @@ pub its_letter : {x : Next} {v : CodeOption ℕ} {m next : ℕ} (t : TheItem x v
     → letter_word v ≡ variable_number t.it.variable
 its_letter t = sym (ap letter_word t.letter) ∙ lettered t.it.variable
 
-operator_numbered : (o : Operator) → code_operator_number (code_operator o) ≡ operator_number o
+pub operator_numbered : (o : Operator) → code_operator_number (code_operator o) ≡ operator_number o
 unfolding code_operator code_operator_number operator_number
 operator_numbered Equal = refl
 operator_numbered Unequal = refl

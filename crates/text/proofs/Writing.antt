@@ -101,7 +101,7 @@ numbered Code.Comma = refl
 same_word : (v w : CodeWord) → code_word_number v ≡ code_word_number w → v ≡ w
 same_word v w e = sym (numbered v) ∙ ap word_of_number e ∙ numbered w
 
-word_numbered : (w : Word) → code_word_number (code_word w) ≡ word_number w
+pub word_numbered : (w : Word) → code_word_number (code_word w) ≡ word_number w
 unfolding code_word code_word_number word_number
 word_numbered Retrieve = refl
 word_numbered Where = refl
